@@ -1,0 +1,5 @@
+pub mod Order
+pub mod Number
+pub mod Version
+pub mod Range
+pub mod RangeText

@@ -1,0 +1,6 @@
+// Kinds of values that stand in an order and are read from text, and ranges over any of them.
+pub mod controller;
+pub mod kind;
+pub mod number;
+pub mod range;
+pub mod version;
