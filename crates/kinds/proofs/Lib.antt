@@ -1,3 +1,4 @@
 pub mod Commas
 pub mod Numerals
 pub mod Ranges
+pub mod Tables

@@ -3,3 +3,4 @@ pub mod Number
 pub mod Version
 pub mod Range
 pub mod RangeText
+pub mod Examples

@@ -20,6 +20,20 @@ Under below end v = (below v (end .value) ≡ true) ⊎ ((end .included ≡ true
 abbrev pub Holds : {K : Type 0} → (K → K → Bool) → Range K → K → Type 0
 Holds below r v = Above below (r .floor) v × Cases (r .ceiling) (Unit {0}) (λ ceiling. Under below ceiling v)
 
+-- The same as a test, for the definitions that compute with it.
+abbrev pub above : {K : Type 0} → (K → K → Bool) → End K → K → Bool
+above below end v = cond (end .included) (not (below v (end .value))) (below (end .value) v)
+
+abbrev pub under : {K : Type 0} → (K → K → Bool) → End K → K → Bool
+under below end v = cond (end .included) (not (below (end .value) v)) (below v (end .value))
+
+abbrev pub underAny : {K : Type 0} → (K → K → Bool) → Option (End K) → K → Bool
+underAny below None v = true
+underAny below (Some end) v = under below end v
+
+abbrev pub holding : {K : Type 0} → (K → K → Bool) → Range K → K → Bool
+holding below r v = above below (r .floor) v && underAny below (r .ceiling) v
+
 -- that value or above
 abbrev pub atLeast : {K : Type 0} → K → Range K
 atLeast k = record { floor = record { value = k; included = true }; ceiling = None }

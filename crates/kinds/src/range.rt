@@ -1,8 +1,10 @@
 // A range over any readable kind: which values it holds, and how it is read from text.
+ghost use mathlib.Core.Bool.{true, false};
 ghost use mathlib.Core.List.{List};
 ghost use mathlib.Core.Path.{_≡_};
 ghost use Rattle.std.specs.Orderings.{Decides};
-ghost use Rattle.kinds.specs.Range.{Above, Under, Holds, atLeast};
+ghost use Rattle.std.specs.declared.option.Option.the-variants.{Some};
+ghost use Rattle.kinds.specs.Range.{Above, Under, Holds, above, under, holding, atLeast};
 ghost use Rattle.kinds.specs.RangeText.{opening, closing, RangeText, Only, floorOf, ceilingOf, range};
 use crate::kind::Ordered;
 use crate::kind::Readable;
@@ -46,7 +48,9 @@ impl<K: Readable> Range<K> {
 
     // Whether the value is in the range.
     pub fn holds(&self, value: &K) -> bool
-        ensures { λ r. ⌜ Decides r (Holds (K·Ordered .below) (now (self .entry)) (now (value .entry))) ⌝ }
+        ensures membership { λ r. ⌜ Decides r (Holds (K·Ordered .below) (now (self .entry)) (now (value .entry))) ⌝ }
+        ensures value { λ r. ⌜ r ≡ holding (K·Ordered .below) (now (self .entry)) (now (value .entry)) ⌝ }
+        ensures nothing { λ r. ⌜ ((ceiling : End K) → now (self .entry) .ceiling ≡ Some ceiling → K·Ordered .below (ceiling .value) (now (self .entry) .floor .value) ≡ true → r ≡ false) ⌝ }
     {
         let under = match &self.ceiling {
             Some(ceiling) => is_under(value, ceiling),
@@ -75,7 +79,8 @@ impl<K: Readable> Range<K> {
 
 // Whether the value is above the end, or is the end where that is included.
 fn is_above<K: Ordered>(value: &K, end: &End<K>) -> bool
-    ensures { λ r. ⌜ Decides r (Above (K·Ordered .below) (now (end .entry)) (now (value .entry))) ⌝ }
+    ensures membership { λ r. ⌜ Decides r (Above (K·Ordered .below) (now (end .entry)) (now (value .entry))) ⌝ }
+    ensures value { λ r. ⌜ r ≡ above (K·Ordered .below) (now (end .entry)) (now (value .entry)) ⌝ }
 {
     if end.included {
         !value.is_below(&end.value)
@@ -86,7 +91,8 @@ fn is_above<K: Ordered>(value: &K, end: &End<K>) -> bool
 
 // Whether the value is below the end, or is the end where that is included.
 fn is_under<K: Ordered>(value: &K, end: &End<K>) -> bool
-    ensures { λ r. ⌜ Decides r (Under (K·Ordered .below) (now (end .entry)) (now (value .entry))) ⌝ }
+    ensures membership { λ r. ⌜ Decides r (Under (K·Ordered .below) (now (end .entry)) (now (value .entry))) ⌝ }
+    ensures value { λ r. ⌜ r ≡ under (K·Ordered .below) (now (end .entry)) (now (value .entry)) ⌝ }
 {
     if end.included {
         !end.value.is_below(value)

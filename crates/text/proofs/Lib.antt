@@ -1,2 +1,3 @@
+pub mod Equals
 pub mod Every
 pub mod Splits

@@ -1,6 +1,6 @@
 -- Kinds of bytes, and what holds of every byte of a text.
 use Prim.Native.Nat.{ℕ}
-use mathlib.Core.Bool.{Bool, true, not, _&&_, _||_}
+use mathlib.Core.Bool.{Bool, true, false, not, _&&_, _||_}
 use mathlib.Core.List.{List, [], _∷_}
 use lib.Dec.{eqb, leb}
 
@@ -19,3 +19,10 @@ every p (b ∷ bs) = p b && every p bs
 -- the byte b is not in the text
 abbrev pub lacks : ℕ → List ℕ → Bool
 lacks b text = every (λ x. not (eqb x b)) text
+
+-- the same bytes in the same order
+abbrev pub equal : List ℕ → List ℕ → Bool
+equal [] [] = true
+equal [] (y ∷ ys) = false
+equal (x ∷ xs) [] = false
+equal (x ∷ xs) (y ∷ ys) = eqb x y && equal xs ys
