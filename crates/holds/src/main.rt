@@ -11,7 +11,7 @@ fn main(rt: LibcRuntime) -> io::Result<()> {
     let mut input = BufReader::new(rt.stdin());
     let mut line = Vec::new(rt.alloc());
     let mut tally = Tally::new();
-    for number in 1..u64::MAX {
+    for number in 1..=u64::MAX {
         line.clear();
         if input.read_until(b'\n', &mut line)? == 0 {
             break;

@@ -17,6 +17,7 @@ use Rattle.text.specs.Splitting.{split, parts, rejoined}
 use Rattle.text.proofs.Splits.{split-rejoined}
 use Rattle.kinds.specs.declared.controller.ControllerNumber.{ControllerNumber}
 use Rattle.kinds.specs.declared.version.Version.{Version}
+use Rattle.kinds.specs.Controller.{controller, numbered as controllerOf}
 use Rattle.kinds.specs.Number.{decimal, number}
 use Rattle.kinds.specs.Version.{front, closes, numbered, versionOf, version}
 
@@ -55,11 +56,11 @@ number-lacks text n e =
     let digits = and-parts (ltb 0 (length text) && every digit text) (ltb (decimal text) 65536) test .0 in
     every-weaker digit (λ x. not (eqb x 44)) digit-no-comma text (and-parts (ltb 0 (length text)) (every digit text) digits .1)
 
-mapped-some : (o : Option ℕ) (x : ControllerNumber) → mapped (λ n. record { 0 = n }) o ≡ Some x → o ≡ Some (x .0)
+mapped-some : (o : Option ℕ) (x : ControllerNumber) → mapped controllerOf o ≡ Some x → o ≡ Some (x .0)
 mapped-some None x e = let z : _≡_ {A = ℕ} 0 1 = cc in absurd (omega arith)
 mapped-some (Some n) x e = cc
 
-pub controller-lacks : (text : List ℕ) (x : ControllerNumber) → mapped (λ n. record { 0 = n }) (number text) ≡ Some x → lacks 44 text ≡ true
+pub controller-lacks : (text : List ℕ) (x : ControllerNumber) → controller text ≡ Some x → lacks 44 text ≡ true
 controller-lacks text x e = number-lacks text (x .0) (mapped-some (number text) x e)
 
 all-numbered : (a b c : Option ℕ) (v : Version) → numbered a b c ≡ Some v → (x : ℕ) × (y : ℕ) × (z : ℕ) × (a ≡ Some x) × (b ≡ Some y) × (c ≡ Some z)

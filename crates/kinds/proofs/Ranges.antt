@@ -18,7 +18,7 @@ use Rattle.text.specs.Bytes.{every, lacks}
 use Rattle.text.specs.Splitting.{reach}
 use Rattle.kinds.specs.declared.range.End.{End}
 use Rattle.kinds.specs.declared.range.Range.{Range}
-use Rattle.kinds.specs.Range.{atLeast}
+use Rattle.kinds.specs.declared.range.Range.the-variants.{AtLeast, Between}
 use Rattle.kinds.specs.RangeText.{opening, closing, Single, Bracketed, RangeText, Only, endOf, floorOf, ceilingOf, between, range}
 
 abbrev comma : List ℕ → ℕ
@@ -58,14 +58,12 @@ opening-lacks b low floor e h = by (eqb b 44) refl
     by true s = let f = eqb-true b 44 s in let z : _≡_ {A = Option Bool} (Some low) None = sym e ∙ ap opening f in let y : _≡_ {A = ℕ} 0 1 = cc in absurd (omega arith)
     by false s = h
 
--- where a test with an answer answers, both ends are there
+-- where there is a range, both ends are there
 between-some : {K : Type 0} (floor ceiling : Option (End K)) (r : Range K) → between floor ceiling ≡ Some r
-    → (floor ≡ Some (r .floor)) × ((top : End K) × (r .ceiling ≡ Some top) × (ceiling ≡ Some top))
+    → (low : End K) × (high : End K) × (floor ≡ Some low) × (ceiling ≡ Some high) × (r ≡ Between low high)
 between-some None ceiling r e = let z : _≡_ {A = ℕ} 0 1 = cc in absurd (omega arith)
 between-some (Some f) None r e = let z : _≡_ {A = ℕ} 0 1 = cc in absurd (omega arith)
-between-some {K} (Some f) (Some c) r e =
-    let is : record { floor = f; ceiling = Some c } ≡ r = cc in
-    (ap (λ (x : Range K). Some (x .floor)) is, (c, sym (ap (λ (x : Range K). x .ceiling) is), refl))
+between-some (Some f) (Some c) r e = (f, c, refl, refl, cc)
 
 end-some : {K : Type 0} (included : Option Bool) (value : Option K) (end : End K) → endOf included value ≡ Some end
     → (included ≡ Some (end .included)) × (value ≡ Some (end .value))
@@ -124,25 +122,27 @@ module _ {K : Type 0} (reads : List ℕ → Option K) where
       let b = take (comma text) text in
       let a = drop (comma text + 1) text in
       let both = between-some (floorOf reads b) (ceilingOf reads a) r e in
-      let low = end-some (opening (getD b 0 0)) (reads (drop 1 b)) (r .floor) (both .0) in
-      let top = both .1 .0 in
-      let high = end-some (closing (getD a (length a - 1) 0)) (reads (take (length a - 1) a)) top (both .1 .2) in
+      let floor = both .0 in
+      let ceiling = both .1 in
+      let low = end-some (opening (getD b 0 0)) (reads (drop 1 b)) floor (both .2) in
+      let high = end-some (closing (getD a (length a - 1) 0)) (reads (take (length a - 1) a)) ceiling (both .3) in
       record {
         opener = getD b 0 0;
-        floor = drop 1 b;
-        ceiling = take (length a - 1) a;
+        floorText = drop 1 b;
+        ceilingText = take (length a - 1) a;
         closer = getD a (length a - 1) 0;
         form = cut-form text (getD b 0 0 ∷ drop 1 b) (take (length a - 1) a ++ (getD a (length a - 1) 0 ∷ [])) h
-            (first-rest b (r .floor .included) (low .0)) (front-last a (top .included) (high .0));
+            (first-rest b (floor .included) (low .0)) (front-last a (ceiling .included) (high .0));
+        floor = floor;
+        ceiling = ceiling;
         opens = low .0;
         starts = low .1;
-        top = top;
-        has-top = both .1 .1;
         stops = high .1;
         closes = high .0;
+        meaning = both .4;
       }
 
-  single : (text : List ℕ) (o : Option K) (r : Range K) → reads text ≡ o → mapped atLeast o ≡ Some r → Single reads text r
+  single : (text : List ℕ) (o : Option K) (r : Range K) → reads text ≡ o → mapped AtLeast o ≡ Some r → Single reads text r
   single text None r was e = let z : _≡_ {A = ℕ} 0 1 = cc in absurd (omega arith)
   single text (Some v) r was e = record { value = v; reading = was; meaning = cc }
 
@@ -150,7 +150,7 @@ module _ {K : Type 0} (reads : List ℕ → Option K) where
   sound text r e = by (ltb (comma text) (length text)) refl e
     where
       by : (cut : Bool) → ltb (comma text) (length text) ≡ cut
-          → cond cut (between (floorOf reads (take (comma text) text)) (ceilingOf reads (drop (comma text + 1) text))) (mapped atLeast (reads text)) ≡ Some r → RangeText reads text r
+          → cond cut (between (floorOf reads (take (comma text) text)) (ceilingOf reads (drop (comma text + 1) text))) (mapped AtLeast (reads text)) ≡ Some r → RangeText reads text r
       by true t e = inr (bracketed text r (ltb-true (comma text) (length text) t) e)
       by false t e = inl (single text (reads text) r refl e)
 
@@ -159,7 +159,7 @@ module _ {K : Type 0} (reads : List ℕ → Option K) where
     single-read text r s =
         let n = reach-lacks text (commaless text (s .value) (s .reading)) in
         let t : ltb (comma text) (length text) ≡ false = le-ltb (comma text) (length text) (omega arith) in
-        rw t (ap (mapped atLeast) (s .reading) ∙ ap Some (sym (s .meaning)))
+        rw t (ap (mapped AtLeast) (s .reading) ∙ ap Some (sym (s .meaning)))
 
     ceiling-at : (text : List ℕ) (b : ℕ) → ceilingOf reads (text ++ (b ∷ [])) ≡ endOf (closing b) (reads text)
     ceiling-at text b =
@@ -170,18 +170,18 @@ module _ {K : Type 0} (reads : List ℕ → Option K) where
 
     bracketed-read : (text : List ℕ) (r : Range K) → Bracketed reads text r → range reads text ≡ Some r
     bracketed-read text r s =
-        let opened = s .opener ∷ s .floor in
-        let closed = s .ceiling ++ (s .closer ∷ []) in
+        let opened = s .opener ∷ s .floorText in
+        let closed = s .ceilingText ++ (s .closer ∷ []) in
         let n : comma text ≡ length opened =
-        ap comma (s .form) ∙ reach-after opened closed (opening-lacks (s .opener) (r .floor .included) (s .floor) (s .opens) (commaless (s .floor) (r .floor .value) (s .starts))) in
+        ap comma (s .form) ∙ reach-after opened closed (opening-lacks (s .opener) (s .floor .included) (s .floorText) (s .opens) (commaless (s .floorText) (s .floor .value) (s .starts))) in
         let b : take (comma text) text ≡ opened = ap (λ (k : ℕ). take k text) n ∙ ap (take (length opened)) (s .form) ∙ take-at opened (44 ∷ closed) (length opened) refl in
         let a : drop (comma text + 1) text ≡ closed = ap (λ (k : ℕ). drop (k + 1) text) n ∙ ap (drop (length opened + 1)) (s .form) ∙ drop-past opened 44 closed in
         let t : ltb (comma text) (length text) ≡ true = lt-ltb (comma text) (length text) (omega (arith, n, ap length (s .form), length-append opened (44 ∷ closed))) in
-        let low = end-of (opening (s .opener)) (reads (s .floor)) (r .floor) (s .opens) (s .starts) in
-        let high = end-of (closing (s .closer)) (reads (s .ceiling)) (s .top) (s .closes) (s .stops) in
-        let floor : floorOf reads (take (comma text) text) ≡ Some (r .floor) = ap (floorOf reads) b ∙ low in
-        let ceiling : ceilingOf reads (drop (comma text + 1) text) ≡ Some (s .top) = ap (ceilingOf reads) a ∙ ceiling-at (s .ceiling) (s .closer) ∙ high in
-        rw t (ap (λ (o : Option (End K)). between o (ceilingOf reads (drop (comma text + 1) text))) floor ∙ ap (between (Some (r .floor))) ceiling ∙ ap (λ (o : Option (End K)). Some (record { floor = r .floor; ceiling = o })) (sym (s .has-top)))
+        let low = end-of (opening (s .opener)) (reads (s .floorText)) (s .floor) (s .opens) (s .starts) in
+        let high = end-of (closing (s .closer)) (reads (s .ceilingText)) (s .ceiling) (s .closes) (s .stops) in
+        let floor : floorOf reads (take (comma text) text) ≡ Some (s .floor) = ap (floorOf reads) b ∙ low in
+        let ceiling : ceilingOf reads (drop (comma text + 1) text) ≡ Some (s .ceiling) = ap (ceilingOf reads) a ∙ ceiling-at (s .ceilingText) (s .closer) ∙ high in
+        rw t (ap (λ (o : Option (End K)). between o (ceilingOf reads (drop (comma text + 1) text))) floor ∙ ap (between (Some (s .floor))) ceiling ∙ ap Some (sym (s .meaning)))
 
     pub complete : (text : List ℕ) (r : Range K) → RangeText reads text r → range reads text ≡ Some r
     complete text r (inl s) = single-read text r s
@@ -193,14 +193,14 @@ module _ {K : Type 0} (reads : List ℕ → Option K) where
 
   -- the function, as the code goes: without a comma
   module _ (text : List ℕ) (n : ℕ) (at : n ≡ comma text) (whole : length text ≤ n) where
-    uncut : range reads text ≡ mapped atLeast (reads text)
+    uncut : range reads text ≡ mapped AtLeast (reads text)
     uncut = rw (le-ltb (comma text) (length text) (omega arith)) refl
 
     pub single-none : (o : Option (Range K)) → o ≡ None → reads text ≡ None → o ≡ range reads text
-    single-none o e none = e ∙ sym (uncut ∙ ap (mapped atLeast) none)
+    single-none o e none = e ∙ sym (uncut ∙ ap (mapped AtLeast) none)
 
-    pub single-some : (value : K) (r : Range K) → r ≡ atLeast value → reads text ≡ Some value → Some r ≡ range reads text
-    single-some value r e some = ap Some e ∙ sym (uncut ∙ ap (mapped atLeast) some)
+    pub single-some : (value : K) → reads text ≡ Some value → Some (AtLeast value) ≡ range reads text
+    single-some value some = sym (uncut ∙ ap (mapped AtLeast) some)
 
   -- and with one
   module _ (text : List ℕ) (n : ℕ) (at : n ≡ comma text) (within : n < length text) where
@@ -214,5 +214,5 @@ module _ {K : Type 0} (reads : List ℕ → Option K) where
     cut-open o floor e some none = e ∙ sym (cut ∙ rw (some, none) refl)
 
     pub cut-some : (floor ceiling : End K) → floorOf reads (take (n - 0) text) ≡ Some floor → ceilingOf reads (take (length text - (n + 1)) (drop (n + 1) text)) ≡ Some ceiling
-        → Some (record { floor = floor; ceiling = Some ceiling }) ≡ range reads text
+        → Some (Between floor ceiling) ≡ range reads text
     cut-some floor ceiling some more = sym (cut ∙ rw (some, more) refl)

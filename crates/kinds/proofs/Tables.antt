@@ -15,10 +15,13 @@ use Rattle.std.proofs.shelf.Tests.{and-parts, both-ways}
 use Rattle.std.proofs.shelf.Ways.{decides-and, tells}
 use Rattle.kinds.specs.declared.range.End.{End}
 use Rattle.kinds.specs.declared.range.Range.{Range}
+use Rattle.kinds.specs.declared.controller.ControllerNumber.{ControllerNumber}
 use Rattle.kinds.specs.declared.version.Version.{Version}
+use Rattle.kinds.specs.Controller.{before}
 use Rattle.kinds.specs.Examples.{Answered, Holding}
 use Rattle.kinds.specs.Order.{Trichotomy}
-use Rattle.kinds.specs.Range.{Above, Under, Holds, above, under, underAny, holding}
+use Rattle.kinds.specs.declared.range.Range.the-variants.{AtLeast, Between}
+use Rattle.kinds.specs.Range.{Above, Under, Holds, above, under, holding}
 use Rattle.kinds.specs.RangeText.{range}
 use Rattle.kinds.specs.Version.{lower, version}
 
@@ -30,15 +33,18 @@ module _ {K : Type 0} (below : K → K → Bool) (either : (x y : K) → Trichot
   under-decides : (end : End K) (v : K) → Decides (under below end v) (Under below end v)
   under-decides end v = let o = either v (end .value) in search needs
 
-  any-decides : (end : Option (End K)) (v : K) → Decides (underAny below end v) (Cases end (Unit {0}) (λ ceiling. Under below ceiling v))
-  any-decides None v = (λ _. tt, λ _. refl)
-  any-decides (Some end) v = under-decides end v
+  at-least-decides : (floor v : K) → Decides (not (below v floor)) ((below floor v ≡ true) ⊎ (v ≡ floor))
+  at-least-decides floor v = let o = either v floor in search needs
 
   pub holding-decides : (r : Range K) (v : K) → Decides (holding below r v) (Holds below r v)
-  holding-decides r v = decides-and (above below (r .floor) v) (underAny below (r .ceiling) v) (above-decides (r .floor) v) (any-decides (r .ceiling) v)
+  holding-decides (AtLeast floor) v = at-least-decides floor v
+  holding-decides (Between floor ceiling) v = decides-and (above below floor v) (under below ceiling v) (above-decides floor v) (under-decides ceiling v)
 
-version-either : (x y : Version) → Trichotomy lower x y
+pub version-either : (x y : Version) → Trichotomy lower x y
 version-either x y = search needs
+
+pub controller-either : (x y : ControllerNumber) → Trichotomy before x y
+controller-either x y = search needs
 
 answered : (b : Bool) (t : Bool) {P : Type 0} → Decides t P → cond b t (not t) ≡ true → Answered b P
 answered true t d e = d .0 e

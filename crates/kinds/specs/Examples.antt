@@ -4,12 +4,13 @@ use mathlib.Core.Bool.{Bool, true, false}
 use mathlib.Core.List.{List, [], _∷_}
 use mathlib.Core.Path.{_≡_}
 use lib.Chars.{codes}
-use Rattle.std.specs.Options.{Cases, isSome}
+use Rattle.std.specs.Options.{Cases}
 use Rattle.std.specs.shelf.Lists.{All}
 use Rattle.std.specs.declared.option.Option.{Option}
 use Rattle.std.specs.declared.option.Option.the-variants.{Some, None}
+use Rattle.kinds.specs.declared.controller.ControllerNumber.{ControllerNumber}
 use Rattle.kinds.specs.declared.version.Version.{Version}
-use Rattle.kinds.specs.Number.{number}
+use Rattle.kinds.specs.Controller.{controller, numbered}
 use Rattle.kinds.specs.Range.{Holds}
 use Rattle.kinds.specs.RangeText.{range}
 use Rattle.kinds.specs.Version.{lower, version}
@@ -40,11 +41,11 @@ versions =
     ∷ ((codes " 1", None) ∷ [])))))))))))))))))
 
 -- a text, and the controller number that it reads as
-abbrev pub controllers : List (List ℕ × Option ℕ)
+abbrev pub controllers : List (List ℕ × Option ControllerNumber)
 controllers =
-    (codes "7", Some 7)
-    ∷ ((codes "007", Some 7)
-    ∷ ((codes "65535", Some 65535) ∷ ((codes "65536", None) ∷ ((codes "", None) ∷ ((codes "1.0", None) ∷ ((codes "-1", None) ∷ []))))))
+    (codes "7", Some (numbered 7))
+    ∷ ((codes "007", Some (numbered 7))
+    ∷ ((codes "65535", Some (numbered 65535)) ∷ ((codes "65536", None) ∷ ((codes "", None) ∷ ((codes "1.0", None) ∷ ((codes "-1", None) ∷ []))))))
 
 -- texts that read as no range of versions
 abbrev pub unreadable : List (List ℕ)
@@ -74,8 +75,8 @@ memberships =
 abbrev pub ReadsAsVersion : List ℕ × Option Version → Type 0
 ReadsAsVersion row = version (row .0) ≡ row .1
 
-abbrev pub ReadsAsNumber : List ℕ × Option ℕ → Type 0
-ReadsAsNumber row = number (row .0) ≡ row .1
+abbrev pub ReadsAsController : List ℕ × Option ControllerNumber → Type 0
+ReadsAsController row = controller (row .0) ≡ row .1
 
 abbrev pub ReadsNot : List ℕ → Type 0
 ReadsNot text = range version text ≡ None
@@ -94,7 +95,7 @@ Nothing = Cases (range version (codes "[2,1]")) ⊥ (λ r. (x : Version) → Hol
 
 pub record Examples : Type 0 where
   pub of-versions : All ReadsAsVersion versions
-  pub of-controllers : All ReadsAsNumber controllers
+  pub of-controllers : All ReadsAsController controllers
   pub of-no-ranges : All ReadsNot unreadable
   pub of-memberships : All Holding memberships
   pub of-nothing : Nothing

@@ -12,7 +12,7 @@ use Rattle.std.specs.declared.option.Option.the-variants.{Some, None}
 use Rattle.text.specs.Splitting.{reach}
 use Rattle.kinds.specs.declared.range.End.{End}
 use Rattle.kinds.specs.declared.range.Range.{Range}
-use Rattle.kinds.specs.Range.{atLeast}
+use Rattle.kinds.specs.declared.range.Range.the-variants.{AtLeast, Between}
 
 -- whether an opening bracket includes the floor: `[` does, `(` does not, and no other byte opens
 abbrev pub opening : ℕ → Option Bool
@@ -26,21 +26,22 @@ closing b = cond (eqb b 93) (Some true) (cond (eqb b 41) (Some false) None)
 pub record Single {K : Type 0} (reads : List ℕ → Option K) (text : List ℕ) (r : Range K) : Type 0 where
   pub value : K
   pub reading : reads text ≡ Some value
-  pub meaning : r ≡ atLeast value
+  pub meaning : r ≡ AtLeast value
 
 -- an opening bracket, a floor's text, a comma, a ceiling's text, a closing bracket
 pub record Bracketed {K : Type 0} (reads : List ℕ → Option K) (text : List ℕ) (r : Range K) : Type 0 where
   pub opener : ℕ
-  pub floor : List ℕ
-  pub ceiling : List ℕ
+  pub floorText : List ℕ
+  pub ceilingText : List ℕ
   pub closer : ℕ
-  pub form : text ≡ opener ∷ (floor ++ (44 ∷ (ceiling ++ (closer ∷ []))))
-  pub opens : opening opener ≡ Some (r .floor .included)
-  pub starts : reads floor ≡ Some (r .floor .value)
-  pub top : End K
-  pub has-top : r .ceiling ≡ Some top
-  pub stops : reads ceiling ≡ Some (top .value)
-  pub closes : closing closer ≡ Some (top .included)
+  pub form : text ≡ opener ∷ (floorText ++ (44 ∷ (ceilingText ++ (closer ∷ []))))
+  pub floor : End K
+  pub ceiling : End K
+  pub opens : opening opener ≡ Some (floor .included)
+  pub starts : reads floorText ≡ Some (floor .value)
+  pub stops : reads ceilingText ≡ Some (ceiling .value)
+  pub closes : closing closer ≡ Some (ceiling .included)
+  pub meaning : r ≡ Between floor ceiling
 
 -- the text reads as the range r
 abbrev pub RangeText : {K : Type 0} → (List ℕ → Option K) → List ℕ → Range K → Type 0
@@ -68,10 +69,10 @@ ceilingOf reads text = endOf (closing (getD text (length text - 1) 0)) (reads (t
 abbrev pub between : {K : Type 0} → Option (End K) → Option (End K) → Option (Range K)
 between None ceiling = None
 between (Some floor) None = None
-between (Some floor) (Some ceiling) = Some (record { floor = floor; ceiling = Some ceiling })
+between (Some floor) (Some ceiling) = Some (Between floor ceiling)
 
 -- the text is cut at its first comma; without one it is a single value
 abbrev pub range : {K : Type 0} → (List ℕ → Option K) → List ℕ → Option (Range K)
 range reads text =
     let comma = reach false 44 false text in
-    cond (ltb comma (length text)) (between (floorOf reads (take comma text)) (ceilingOf reads (drop (comma + 1) text))) (mapped atLeast (reads text))
+    cond (ltb comma (length text)) (between (floorOf reads (take comma text)) (ceilingOf reads (drop (comma + 1) text))) (mapped AtLeast (reads text))

@@ -1,7 +1,5 @@
-// The numbers of booth controllers.
-ghost use lib.Dec.{ltb};
-ghost use Rattle.std.specs.Options.{mapped};
-ghost use Rattle.kinds.specs.Number.{number};
+// The numbers of controllers.
+ghost use Rattle.kinds.specs.Controller.{before, controller, numbered};
 use crate::kind::Ordered;
 use crate::kind::Readable;
 use crate::number::read_u16;
@@ -11,7 +9,7 @@ use crate::number::read_u16;
 pub struct ControllerNumber(pub u16);
 
 pub impl Ordered for ControllerNumber as ControllerNumberOrdered {
-    ghost below = { λ x y. ltb (x .0) (y .0) };
+    ghost below = { before };
 
     fn is_below(&self, other: &ControllerNumber) -> bool {
         self.0 < other.0
@@ -19,9 +17,9 @@ pub impl Ordered for ControllerNumber as ControllerNumberOrdered {
 }
 
 pub impl Readable for ControllerNumber as ControllerNumberReadable {
-    ghost least = { record { 0 = 0 } };
+    ghost least = { numbered 0 };
 
-    ghost reads = { λ text. mapped (λ n. record { 0 = n }) (number text) };
+    ghost reads = { controller };
 
     fn missing() -> ControllerNumber {
         ControllerNumber(0)

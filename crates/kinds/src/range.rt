@@ -1,10 +1,9 @@
 // A range over any readable kind: which values it holds, and how it is read from text.
-ghost use mathlib.Core.Bool.{true, false};
-ghost use mathlib.Core.List.{List};
 ghost use mathlib.Core.Path.{_≡_};
 ghost use Rattle.std.specs.Orderings.{Decides};
-ghost use Rattle.std.specs.declared.option.Option.the-variants.{Some};
-ghost use Rattle.kinds.specs.Range.{Above, Under, Holds, above, under, holding, atLeast};
+ghost use Rattle.kinds.specs.declared.range.Range.the-variants.{AtLeast, Between};
+ghost use mathlib.Core.Bool.{true, false};
+ghost use Rattle.kinds.specs.Range.{Above, Holds, Under, above, holding, under};
 ghost use Rattle.kinds.specs.RangeText.{opening, closing, RangeText, Only, floorOf, ceilingOf, range};
 use crate::kind::Ordered;
 use crate::kind::Readable;
@@ -17,46 +16,32 @@ pub struct End<K> {
     pub included: bool,
 }
 
-// The values from a floor up, and perhaps up to a ceiling.
+// The values from a floor up, and perhaps up to a ceiling. Without a ceiling the floor is always included.
 #[derive(Clone, Copy)]
-pub struct Range<K> {
-    pub floor: End<K>,
-    pub ceiling: Option<End<K>>,
+pub enum Range<K> {
+    AtLeast(K),
+    Between(End<K>, End<K>),
 }
 
 impl<K: Readable> Range<K> {
-    // That value or above.
-    pub fn at_least(value: K) -> Range<K>
-        ensures { λ r. ⌜ r ≡ atLeast value ⌝ }
-    {
-        Range {
-            floor: End {
-                value,
-                included: true,
-            },
-            ceiling: None,
-        }
-    }
-
     // What a missing range means.
     pub fn all() -> Range<K>
-        ensures means { λ r. ⌜ r ≡ atLeast (K·Readable .least) ⌝ }
+        ensures means { λ r. ⌜ r ≡ AtLeast (K·Readable .least) ⌝ }
         ensures everything { λ r. ⌜ ((v : K) → Holds (K·Ordered .below) r v) ⌝ }
     {
-        Range::at_least(K::missing())
+        Range::AtLeast(K::missing())
     }
 
     // Whether the value is in the range.
     pub fn holds(&self, value: &K) -> bool
         ensures membership { λ r. ⌜ Decides r (Holds (K·Ordered .below) (now (self .entry)) (now (value .entry))) ⌝ }
         ensures value { λ r. ⌜ r ≡ holding (K·Ordered .below) (now (self .entry)) (now (value .entry)) ⌝ }
-        ensures nothing { λ r. ⌜ ((ceiling : End K) → now (self .entry) .ceiling ≡ Some ceiling → K·Ordered .below (ceiling .value) (now (self .entry) .floor .value) ≡ true → r ≡ false) ⌝ }
+        ensures nothing { λ r. ⌜ ((floor ceiling : End K) → now (self .entry) ≡ Between floor ceiling → K·Ordered .below (ceiling .value) (floor .value) ≡ true → r ≡ false) ⌝ }
     {
-        let under = match &self.ceiling {
-            Some(ceiling) => is_under(value, ceiling),
-            None => true,
-        };
-        is_above(value, &self.floor) && under
+        match self {
+            Range::AtLeast(floor) => !value.is_below(floor),
+            Range::Between(floor, ceiling) => is_above(value, floor) && is_under(value, ceiling),
+        }
     }
 
     // `[1,2)`, or a single value, which means that value or above.
@@ -66,14 +51,11 @@ impl<K: Readable> Range<K> {
     {
         let comma = find(text, b',', false);
         if comma >= text.len() {
-            return Some(Range::at_least(K::read(text)?));
+            return Some(Range::AtLeast(K::read(text)?));
         }
         let floor = read_floor(&text[0..comma])?;
         let ceiling = read_ceiling(&text[comma + 1..])?;
-        Some(Range {
-            floor,
-            ceiling: Some(ceiling),
-        })
+        Some(Range::Between(floor, ceiling))
     }
 }
 

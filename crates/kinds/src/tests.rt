@@ -75,14 +75,21 @@ mod cases {
         Ok(())
     }
 
+    const CONTROLLERS: [(&[u8], &[u8], Option<bool>); 6] = [
+        (b"[7,9]", b"9", Some(true)),
+        (b"[7,9)", b"9", Some(false)),
+        (b"65535", b"065535", Some(true)),
+        (b"65536", b"7", None),
+        (b"0", b"0", Some(true)),
+        (b"1.0", b"1", None),
+    ];
+
     #[test]
     fn controllers() -> Result<(), Fail> {
-        check(member::<ControllerNumber>(b"[7,9]", b"9") == Some(true))?;
-        check(member::<ControllerNumber>(b"[7,9)", b"9") == Some(false))?;
-        check(member::<ControllerNumber>(b"65535", b"065535") == Some(true))?;
-        check(member::<ControllerNumber>(b"65536", b"7") == None)?;
-        check(Range::<ControllerNumber>::all().holds(&ControllerNumber(0)))?;
-        check(ControllerNumber(6).is_below(&ControllerNumber(7)))
+        for (range, value, expected) in CONTROLLERS {
+            check(member::<ControllerNumber>(range, value) == expected)?;
+        }
+        Ok(())
     }
 
     fn member<K: Readable>(range: &[u8], value: &[u8]) -> Option<bool> {

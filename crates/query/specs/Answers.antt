@@ -3,16 +3,14 @@ use Prim.Native.Nat.{ℕ, _-_}
 use mathlib.Core.Bool.{Bool, cond}
 use mathlib.Core.List.{List, [], _∷_}
 use lib.Chars.{codes}
-use lib.Dec.{eqb, ltb}
+use lib.Dec.{eqb}
 use lib.ListN.{getD, length, take}
-use Rattle.std.specs.Options.{mapped}
 use Rattle.std.specs.declared.option.Option.{Option}
 use Rattle.std.specs.declared.option.Option.the-variants.{Some, None}
 use Rattle.text.specs.Bytes.{equal}
 use Rattle.text.specs.Splitting.{parts}
-use Rattle.kinds.specs.declared.controller.ControllerNumber.{ControllerNumber}
 use Rattle.kinds.specs.declared.range.Range.{Range}
-use Rattle.kinds.specs.Number.{number}
+use Rattle.kinds.specs.Controller.{before, controller}
 use Rattle.kinds.specs.Range.{holding}
 use Rattle.kinds.specs.RangeText.{range}
 use Rattle.kinds.specs.Version.{lower, version}
@@ -34,14 +32,11 @@ judged below r v (Some read) (Some value) = cond (holding below read value) (hol
 abbrev pub judgedAs : {K : Type 0} → (List ℕ → Option K) → (K → K → Bool) → List ℕ → List ℕ → Said
 judgedAs reads below r v = judged below r v (range reads r) (reads v)
 
-abbrev pub controller : List ℕ → Option ControllerNumber
-controller text = mapped (λ n. record { 0 = n }) (number text)
-
 -- the kind is read before the range
 abbrev pub asked : List ℕ → List ℕ → List ℕ → Said
 asked kind r v =
     cond (equal kind (codes "version")) (judgedAs version lower r v)
-    (cond (equal kind (codes "controller")) (judgedAs controller (λ x y. ltb (x .0) (y .0)) r v) (unread part.Kind))
+    (cond (equal kind (codes "controller")) (judgedAs controller before r v) (unread part.Kind))
 
 -- three words, with one space between each two
 abbrev pub worded : List (List ℕ) → Said

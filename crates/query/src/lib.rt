@@ -1,4 +1,5 @@
 // The answer to one line of the program `holds`.
 pub mod answer;
+pub mod laws;
 pub mod line;
 pub mod tally;

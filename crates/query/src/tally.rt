@@ -35,7 +35,7 @@ impl Tally {
 
     // How many lines there were, up to the largest number.
     pub fn lines(&self) -> u64
-        ensures { λ r. ⌜ r ≡ min (min (now (self .entry) .held + now (self .entry) .«left_out») (2 ^ 64 - 1) + now (self .entry) .unread) (2 ^ 64 - 1) ⌝ }
+        ensures { λ r. ⌜ r ≡ min (now (self .entry) .held + now (self .entry) .«left_out» + now (self .entry) .unread) (2 ^ 64 - 1) ⌝ }
     {
         self.held
             .saturating_add(self.left_out)

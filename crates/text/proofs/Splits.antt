@@ -102,3 +102,34 @@ apart-step sep x xs false e more = on-first-apart sep x (split false sep false x
 pub parts-apart : (sep : ℕ) (xs : List ℕ) → Apart sep (split false sep false xs)
 parts-apart sep [] = (refl, tt)
 parts-apart sep (x ∷ xs) = apart-step sep x xs (eqb x sep) refl (parts-apart sep xs)
+
+-- no piece has a separator in it that counts: for the first, from where the text begins; for the others, from outside quotes
+abbrev Whole : Bool → ℕ → Bool → List ℕ → Type 0
+Whole quotes sep inside p = reach quotes sep inside p ≡ length p
+
+abbrev Wholes : Bool → ℕ → Bool → List (List ℕ) → Type 0
+Wholes quotes sep inside [] = Unit {0}
+Wholes quotes sep inside (p ∷ ps) = Whole quotes sep inside p × All (Whole quotes sep false) ps
+
+wholes-all : (quotes : Bool) (sep : ℕ) (ps : List (List ℕ)) → Wholes quotes sep false ps → All (Whole quotes sep false) ps
+wholes-all quotes sep [] h = tt
+wholes-all quotes sep (p ∷ ps) h = (h .0, h .1)
+
+on-first-whole : (quotes : Bool) (sep : ℕ) (inside : Bool) (x : ℕ) (ps : List (List ℕ)) → (eqb x sep && not inside) ≡ false
+    → Wholes quotes sep (turned quotes inside x) ps → Wholes quotes sep inside (onFirst x ps)
+on-first-whole quotes sep inside x [] e h = tt
+on-first-whole quotes sep inside x (p ∷ ps) e h = (rw e (ap suc (h .0)), h .1)
+
+whole-step : (quotes : Bool) (sep : ℕ) (inside : Bool) (x : ℕ) (xs : List ℕ) (here : Bool) → (eqb x sep && not inside) ≡ here
+    → ((now : Bool) → Wholes quotes sep now (split quotes sep now xs))
+    → Wholes quotes sep inside (cond here ([] ∷ split quotes sep (not here && turned quotes inside x) xs) (onFirst x (split quotes sep (not here && turned quotes inside x) xs)))
+whole-step quotes sep inside x xs true e more = (refl, wholes-all quotes sep (split quotes sep false xs) (more false))
+whole-step quotes sep inside x xs false e more =
+    on-first-whole quotes sep inside x (split quotes sep (turned quotes inside x) xs) e (more (turned quotes inside x))
+
+split-whole : (quotes : Bool) (sep : ℕ) (inside : Bool) (xs : List ℕ) → Wholes quotes sep inside (split quotes sep inside xs)
+split-whole quotes sep inside [] = (refl, tt)
+split-whole quotes sep inside (x ∷ xs) = whole-step quotes sep inside x xs (eqb x sep && not inside) refl (λ now. split-whole quotes sep now xs)
+
+pub split-apart : (quotes : Bool) (sep : ℕ) (xs : List ℕ) → All (λ p. reach quotes sep false p ≡ length p) (split quotes sep false xs)
+split-apart quotes sep xs = wholes-all quotes sep (split quotes sep false xs) (split-whole quotes sep false xs)

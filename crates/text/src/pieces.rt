@@ -36,6 +36,7 @@ impl<'a> Pieces<'a> {
     pub fn outside_quotes(text: &'a [u8], separator: u8) -> Pieces<'a>
         ensures pieces { λ r. ⌜ left r ≡ split true separator false (now (text .entry)) ⌝ }
         ensures whole { λ r. ⌜ rejoined separator (left r) ≡ now (text .entry) ⌝ }
+        ensures apart { λ r. ⌜ All (λ piece. reach true separator false piece ≡ length piece) (left r) ⌝ }
     {
         Pieces {
             rest: Some(text),

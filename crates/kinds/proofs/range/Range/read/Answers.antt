@@ -14,7 +14,7 @@ returns-in-Break-read g c =
 pub returns-then-comma-text : need.returns-then-comma-text
 returns-then-comma-text g c =
     let value = single-some (g .K·Readable .reads) (c .args .text .now) (c .find-comma .result) (c .find-comma .ensures .value) (c .if-comma-text .taken)
-    (c .in-Continue-read .field-0) (c .at-least .result) (c .at-least .ensures) (sym (c .in-Continue-read .ensures tt)) in
+    (c .in-Continue-read .field-0) (sym (c .in-Continue-read .ensures tt)) in
     record { value = value; form = only (g .K·Readable .reads) (g .K·Readable·met .commaless) (c .args .text .now) _ value }
 
 pub returns-in-Break-floor : need.returns-in-Break-floor
