@@ -1,0 +1,5 @@
+use Rattle.shelf.proofs.Fitting.{none-formed}
+use Rattle.shelf.proofs.plain.PlainShelf.empty.Needs as need
+
+pub ghost-result : need.ghost-result
+ghost-result c = (∣ none-formed ∣₁, tt)

@@ -1,0 +1,9 @@
+pub mod Meaning
+pub mod Lent
+pub mod Looked
+pub mod Hidden
+pub mod Refusal
+pub mod Plain
+pub mod Limits
+pub mod Hiding
+pub mod Kept
