@@ -1,4 +1,4 @@
--- What an answer claims, in words.
+-- What an answer claims.
 use Prim.Native.Nat.{ℕ}
 use mathlib.Core.Bool.{Bool, true, false}
 use mathlib.Core.List.{List, _∷_, _++_}
