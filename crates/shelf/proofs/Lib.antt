@@ -1,5 +1,5 @@
 pub mod Exported
 pub mod Every
 pub mod Barred
-pub mod Fitting
+pub mod Keeping
 pub mod Reading

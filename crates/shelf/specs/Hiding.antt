@@ -9,7 +9,7 @@ use Rattle.std.specs.Orderings.{When}
 use Rattle.std.specs.declared.option.Option.{Option}
 use Rattle.std.specs.declared.option.Option.the-variants.{Some, None}
 use Rattle.shelf.specs.Meaning.{Meaning, Bundle, bundleAt, FewItems, WellFormed}
-use Rattle.shelf.specs.Hidden.{hiddenBy}
+use Rattle.shelf.specs.Hidden.{hiddenBy, Covered}
 
 flag : (f : Bool) (o : Option Bundle) → flattened (Some (cond f None o)) ≡ cond f None (flattened (Some o))
 flag true o = refl
@@ -25,10 +25,6 @@ hidden-at (f ∷ fs) [] zero = none-either f
 hidden-at (f ∷ fs) [] (suc place) = none-either (getD fs place false)
 hidden-at (f ∷ fs) (b ∷ m) zero = flag f b
 hidden-at (f ∷ fs) (b ∷ m) (suc place) = hidden-at fs m place
-
--- whether a place is hidden, as what is then found there
-abbrev pub Covered : Bool → List Bool → Meaning → ℕ → Type 0
-Covered r fs m place = When r (bundleAt (hiddenBy fs m) place ≡ None) (bundleAt (hiddenBy fs m) place ≡ bundleAt m place)
 
 cover : (f : Bool) (o p : Option Bundle) → p ≡ cond f None o → When f (p ≡ None) (p ≡ o)
 cover true o p e = e

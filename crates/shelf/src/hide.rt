@@ -1,10 +1,11 @@
 // A layer over any shelf that hides some of its places.
+ghost use Prim.Native.Nat.{_≤_};
 ghost use mathlib.Core.Bool.{true, false};
 ghost use mathlib.Core.Path.{_≡_};
 ghost use lib.ListN.{length, getD, set, replicate};
-ghost use Rattle.shelf.specs.Hidden.{hiddenBy};
-ghost use Rattle.shelf.specs.Hiding.{Covered, hidden-formed};
-ghost use Rattle.shelf.specs.Refusal.{Granted};
+ghost use Rattle.shelf.specs.Hidden.{Covered, hiddenBy};
+ghost use Rattle.shelf.specs.Hiding.{hidden-formed};
+ghost use Rattle.shelf.specs.Refusal.{HideAnswer};
 use crate::export::Export;
 use crate::need::Need;
 use crate::refusal::HideRefusal;
@@ -38,7 +39,8 @@ impl<S: Shelf> Hide<S> {
     pub fn hide(&mut self, place: usize) -> Result<(), HideRefusal>
         ensures below { λ r. ⌜ now (self .exit) .below ≡ now (self .entry) .below ⌝ }
         ensures flags { λ r. ⌜ now (self .exit) .hidden ≡ set (now (self .entry) .hidden) place true ⌝ }
-        ensures granted { λ r. ⌜ Granted place r ⌝ }
+        ensures granted { λ r. ⌜ HideAnswer place r ⌝ }
+        ensures refused { λ r. ⌜ (64 ≤ place → now (self .exit) .hidden ≡ now (self .entry) .hidden) ⌝ }
     {
         self.mark(place, true)
     }
@@ -46,7 +48,8 @@ impl<S: Shelf> Hide<S> {
     pub fn show(&mut self, place: usize) -> Result<(), HideRefusal>
         ensures below { λ r. ⌜ now (self .exit) .below ≡ now (self .entry) .below ⌝ }
         ensures flags { λ r. ⌜ now (self .exit) .hidden ≡ set (now (self .entry) .hidden) place false ⌝ }
-        ensures granted { λ r. ⌜ Granted place r ⌝ }
+        ensures granted { λ r. ⌜ HideAnswer place r ⌝ }
+        ensures refused { λ r. ⌜ (64 ≤ place → now (self .exit) .hidden ≡ now (self .entry) .hidden) ⌝ }
     {
         self.mark(place, false)
     }
@@ -55,7 +58,8 @@ impl<S: Shelf> Hide<S> {
     fn mark(&mut self, place: usize, flag: bool) -> Result<(), HideRefusal>
         ensures below { λ r. ⌜ now (self .exit) .below ≡ now (self .entry) .below ⌝ }
         ensures flags { λ r. ⌜ now (self .exit) .hidden ≡ set (now (self .entry) .hidden) place flag ⌝ }
-        ensures granted { λ r. ⌜ Granted place r ⌝ }
+        ensures granted { λ r. ⌜ HideAnswer place r ⌝ }
+        ensures refused { λ r. ⌜ (64 ≤ place → now (self .exit) .hidden ≡ now (self .entry) .hidden) ⌝ }
     {
         if place >= FLAGS {
             return Err(HideRefusal::NoSuchPlace);
@@ -64,17 +68,18 @@ impl<S: Shelf> Hide<S> {
         Ok(())
     }
 
+    // Every question goes by what this means for the bundle at the place.
     pub fn is_hidden(&self, place: usize) -> bool
+        ensures flag { λ r. ⌜ r ≡ getD (now (self .entry) .hidden) place false ⌝ }
+        ensures meaning { λ r. ⌜ Covered r (now (self .entry) .hidden) (S·Shelf .meaning (now (self .entry) .below)) place ⌝ }
+    {
+        self.flag(place)
+    }
+
+    fn flag(&self, place: usize) -> bool
         ensures { λ r. ⌜ r ≡ getD (now (self .entry) .hidden) place false ⌝ }
     {
         place < FLAGS && self.hidden[place]
-    }
-
-    // The same, as what it means for the bundle at the place: every question goes by this.
-    fn covers(&self, place: usize) -> bool
-        ensures { λ r. ⌜ Covered r (now (self .entry) .hidden) (S·Shelf .meaning (now (self .entry) .below)) place ⌝ }
-    {
-        self.is_hidden(place)
     }
 }
 
@@ -88,11 +93,11 @@ pub impl<S: Shelf> Shelf for Hide<S> as HideShelf {
     }
 
     fn present(&self, place: usize) -> bool {
-        !self.covers(place) && self.below.present(place)
+        !self.is_hidden(place) && self.below.present(place)
     }
 
     fn name(&self, place: usize) -> Option<&[u8]> {
-        if self.covers(place) {
+        if self.is_hidden(place) {
             None
         } else {
             self.below.name(place)
@@ -100,7 +105,7 @@ pub impl<S: Shelf> Shelf for Hide<S> as HideShelf {
     }
 
     fn version(&self, place: usize) -> Option<Version> {
-        if self.covers(place) {
+        if self.is_hidden(place) {
             None
         } else {
             self.below.version(place)
@@ -108,7 +113,7 @@ pub impl<S: Shelf> Shelf for Hide<S> as HideShelf {
     }
 
     fn controllers(&self, place: usize) -> Option<Range<ControllerNumber>> {
-        if self.covers(place) {
+        if self.is_hidden(place) {
             None
         } else {
             self.below.controllers(place)
@@ -116,7 +121,7 @@ pub impl<S: Shelf> Shelf for Hide<S> as HideShelf {
     }
 
     fn export(&self, place: usize, j: usize) -> Option<Export<'_>> {
-        if self.covers(place) {
+        if self.is_hidden(place) {
             None
         } else {
             self.below.export(place, j)
@@ -124,7 +129,7 @@ pub impl<S: Shelf> Shelf for Hide<S> as HideShelf {
     }
 
     fn used(&self, place: usize, j: usize, k: usize) -> Option<&[u8]> {
-        if self.covers(place) {
+        if self.is_hidden(place) {
             None
         } else {
             self.below.used(place, j, k)
@@ -132,7 +137,7 @@ pub impl<S: Shelf> Shelf for Hide<S> as HideShelf {
     }
 
     fn need(&self, place: usize, k: usize) -> Option<Need<'_>> {
-        if self.covers(place) {
+        if self.is_hidden(place) {
             None
         } else {
             self.below.need(place, k)

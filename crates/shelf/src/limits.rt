@@ -51,16 +51,16 @@ impl<'a> Listed for Need<'a> as NeedListed {
 pub fn within_limits(places: &[Option<PlainBundle<'_>>]) -> bool
     ensures { λ r. ⌜ Decides r (WellFormed (meant (now (places .entry)))) ⌝ }
 {
-    places.len() <= PLACES && places_fit(places)
+    places.len() <= PLACES && few_places(places)
 }
 
 // Whether the bundle at every place keeps the limits of a bundle.
-fn places_fit(places: &[Option<PlainBundle<'_>>]) -> bool
+fn few_places(places: &[Option<PlainBundle<'_>>]) -> bool
     ensures { λ r. ⌜ Decides r (FewPlaces (meant (now (places .entry)))) ⌝ }
 {
     for place in places {
         if let Some(bundle) = place {
-            if !bundle_fits(bundle) {
+            if !few_items(bundle) {
                 return false;
             }
         }
@@ -68,22 +68,22 @@ fn places_fit(places: &[Option<PlainBundle<'_>>]) -> bool
     true
 }
 
-fn bundle_fits(bundle: &PlainBundle<'_>) -> bool
+fn few_items(bundle: &PlainBundle<'_>) -> bool
     ensures { λ r. ⌜ Decides r (FewItems (bundleMeant (now (bundle .entry)))) ⌝ }
 {
-    exports_fit(bundle.exports) && needs_fit(bundle.needs)
+    few_exports(bundle.exports) && few_needs(bundle.needs)
 }
 
-fn exports_fit(exports: &[PlainExport<'_>]) -> bool
+fn few_exports(exports: &[PlainExport<'_>]) -> bool
     ensures { λ r. ⌜ Decides r (FewExports (map exportMeant (now (exports .entry)))) ⌝ }
 {
     if exports.len() > EXPORTS {
         return false;
     }
-    uses_fit(exports) && is_clear(exports)
+    few_uses(exports) && is_clear(exports)
 }
 
-fn uses_fit(exports: &[PlainExport<'_>]) -> bool
+fn few_uses(exports: &[PlainExport<'_>]) -> bool
     ensures { λ r. ⌜ Decides r (FewUses (map exportMeant (now (exports .entry)))) ⌝ }
 {
     for export in exports {
@@ -94,7 +94,7 @@ fn uses_fit(exports: &[PlainExport<'_>]) -> bool
     true
 }
 
-fn needs_fit(needs: &[Need<'_>]) -> bool
+fn few_needs(needs: &[Need<'_>]) -> bool
     ensures { λ r. ⌜ Decides r (FewNeeds (map needOf (now (needs .entry)))) ⌝ }
 {
     needs.len() <= NEEDS && is_clear(needs)

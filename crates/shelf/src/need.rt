@@ -2,7 +2,7 @@
 use kinds::range::Range;
 use kinds::version::Version;
 
-// Whether a need may stay unwired.
+// Whether a bundle can do without it.
 #[derive(Clone, Copy)]
 pub enum Resolution {
     Mandatory,

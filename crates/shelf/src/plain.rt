@@ -9,6 +9,7 @@ ghost use Rattle.std.specs.shelf.Maps.{nth};
 ghost use Rattle.shelf.specs.Kept.{kept};
 ghost use Rattle.shelf.specs.Meaning.{WellFormed, bundleAt, exportAt};
 ghost use Rattle.shelf.specs.Plain.{bundleMeant, exportMeant, meant};
+ghost use Rattle.shelf.specs.Refusal.{FillRefused};
 use crate::export::Export;
 use crate::limits::within_limits;
 use crate::need::Need;
@@ -36,7 +37,7 @@ impl<'a> PlainShelf<'a> {
 
     // These places in the place of those before, unless they break a limit: then nothing changes.
     pub fn fill(&mut self, places: &'a [Option<PlainBundle<'a>>]) -> Result<(), FillRefusal>
-        ensures granted { λ r. ⌜ Cases r (λ _. WellFormed (meant (now (places .entry)))) (λ _. WellFormed (meant (now (places .entry))) → ⊥) ⌝ }
+        ensures granted { λ r. ⌜ Cases r (λ _. WellFormed (meant (now (places .entry)))) (λ e. FillRefused e (meant (now (places .entry)))) ⌝ }
         ensures filled { λ r. ⌜ now (now (self .exit) .places) ≡ cond (isOk r) (now (places .entry)) (now (now (self .entry) .places)) ⌝ }
     {
         if !within_limits(places) {

@@ -1,6 +1,7 @@
 // The same clients at a shelf of plain values, at layers over it and at what is lent of it.
 ghost use Rattle.shelf.specs.Hidden.{hiddenBy};
 ghost use Rattle.shelf.specs.Looked.{Found};
+ghost use Rattle.shelf.specs.Plain.{meant};
 use crate::hide::Hide;
 use crate::hide::HideShelf;
 use crate::lookup::export_named;
@@ -136,7 +137,19 @@ const TWICE: PlainBundle<'static> = PlainBundle {
     ..BASE
 };
 
-// The client under two layers: its contract follows with no proof of its own.
+// The client at three shelves: its contract follows at each with no proof of its own.
+fn at_plain(shelf: &PlainShelf<'_>, place: usize, name: &[u8]) -> Option<usize>
+    ensures { λ r. ⌜ Found (meant (now (now (shelf .entry) .places))) place (now (name .entry)) r ⌝ }
+{
+    export_named(shelf, place, name)
+}
+
+fn under_one<S: Shelf>(shelf: &Hide<S>, place: usize, name: &[u8]) -> Option<usize>
+    ensures { λ r. ⌜ Found (hiddenBy (now (shelf .entry) .hidden) (S·Shelf .meaning (now (shelf .entry) .below))) place (now (name .entry)) r ⌝ }
+{
+    export_named(shelf, place, name)
+}
+
 fn under_two<S: Shelf>(shelf: &Hide<Hide<S>>, place: usize, name: &[u8]) -> Option<usize>
     ensures { λ r. ⌜ Found (hiddenBy (now (shelf .entry) .hidden) (hiddenBy (now (shelf .entry) .below .hidden) (S·Shelf .meaning (now (shelf .entry) .below .below)))) place (now (name .entry)) r ⌝ }
 {
@@ -147,7 +160,7 @@ fn under_two<S: Shelf>(shelf: &Hide<Hide<S>>, place: usize, name: &[u8]) -> Opti
 fn clients_at_every_shelf() -> Result<(), Fail> {
     let mut plain = PlainShelf::empty();
     check(plain.fill(&[None, Some(BASE)]).is_ok())?;
-    check_eq(export_named(&plain, 1, b"net"), Some(1))?;
+    check_eq(at_plain(&plain, 1, b"net"), Some(1))?;
     check_eq(export_named(&&plain, 0, b"net"), None)?;
     check(is_named(&Hide::new(&plain), 1, b"base"))?;
     check(is_own_import(&plain, 1, 0))?;
@@ -155,10 +168,15 @@ fn clients_at_every_shelf() -> Result<(), Fail> {
     check(plain.need(1, 1).is_some() && plain.need(1, 2).is_none())?;
     check(plain.used(1, 1, 0).is_some() && plain.used(1, usize::MAX, 0).is_none())?;
     check(plain.name(usize::MAX).is_none())?;
-    let mut upper = Hide::new(Hide::new(plain));
+    check(plain.count() == 2 && !plain.present(0) && plain.present(1))?;
+    let mut lower = Hide::new(plain);
+    check(lower.hide(0).is_ok())?;
+    check_eq(under_one(&lower, 1, b"net"), Some(1))?;
+    let mut upper = Hide::new(lower);
     check_eq(under_two(&upper, 1, b"net"), Some(1))?;
     check(upper.hide(1).is_ok())?;
     check_eq(under_two(&upper, 1, b"net"), None)?;
+    check(upper.count() == 2 && !upper.present(1) && upper.version(1).is_none())?;
     check(upper.show(1).is_ok())?;
     check_eq(under_two(&upper, 1, b"net"), Some(1))
 }

@@ -4,11 +4,11 @@ use Rattle.std.specs.Options.{mapped}
 use Rattle.std.proofs.shelf.Tests.{lt-leb}
 use Rattle.shelf.specs.Plain.{bundleMeant}
 use Rattle.shelf.proofs.Every.{decides-no}
-use Rattle.shelf.proofs.Fitting.{places-fit}
+use Rattle.shelf.proofs.Keeping.{places-keep}
 use Rattle.shelf.proofs.limits.within_limits.Needs as need
 
 pub returns-then-places-le-PLACES : need.returns-then-places-le-PLACES
-returns-then-places-le-PLACES c = places-fit (c .args .places .now) (c .places-fit .result) (c .if-places-le-PLACES .taken) (c .places-fit .ensures)
+returns-then-places-le-PLACES c = places-keep (c .args .places .now) (c .few-places .result) (c .if-places-le-PLACES .taken) (c .few-places .ensures)
 
 pub returns-else-places-le-PLACES : need.returns-else-places-le-PLACES
 returns-else-places-le-PLACES c =

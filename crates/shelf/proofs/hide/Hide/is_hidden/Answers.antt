@@ -1,6 +1,10 @@
-use borrow.Author.Needs.{needs}
-use Rattle.std.proofs.shelf.Lists.{getD-past}
+use Rattle.shelf.specs.Hiding.{covered}
 use Rattle.shelf.proofs.hide.Hide.is_hidden.Needs as need
 
-pub returns-else-place-lt-FLAGS : need.returns-else-place-lt-FLAGS
-returns-else-place-lt-FLAGS g c = search (needs, getD-past)
+pub returns : need.returns
+returns g c =
+    let h = c .args .self .now in
+    record {
+      flag = c .flag .ensures;
+      meaning = covered (h .hidden) (g .S·Shelf .meaning (h .below)) (c .args .place) (c .flag .result) (c .flag .ensures);
+    }

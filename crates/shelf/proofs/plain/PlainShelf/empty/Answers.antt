@@ -1,4 +1,4 @@
-use Rattle.shelf.proofs.Fitting.{none-formed}
+use Rattle.shelf.proofs.Keeping.{none-formed}
 use Rattle.shelf.proofs.plain.PlainShelf.empty.Needs as need
 
 pub ghost-result : need.ghost-result

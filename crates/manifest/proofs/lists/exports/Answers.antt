@@ -1,0 +1,37 @@
+use mathlib.Core.Path.{ap, sym, _∙_}
+use mathlib.Core.List.{[], map}
+use Rattle.std.specs.Options.{mapped}
+use Rattle.std.specs.declared.option.Option.the-variants.{Some}
+use Rattle.manifest.specs.Gathering.{gathered}
+use Rattle.manifest.specs.Index.{exportIn, exportsGot}
+use Rattle.manifest.specs.Spans.{leftIn}
+use Rattle.manifest.specs.Stages.{added, exportPiece, gather}
+use Rattle.manifest.proofs.Gathers.{map-put, stop, turn}
+use Rattle.manifest.proofs.lists.exports.Needs as need
+
+pub loop-piece-holds : need.loop-piece-holds
+loop-piece-holds c = ap (λ a. gather 16 exportPiece (Some (mapped (map (exportIn (c .args .text .now))) a)) (leftIn (c .args .text .now) (c .of-pieces .result))) (c .new-all .ensures)
+
+pub returns-in-None : need.returns-in-None
+returns-in-None c =
+    stop 16 exportPiece (exportsGot (c .args .text .now) (c .loop-piece .all)) _ _ _ _ (c .in-Some .ensures tt) (c .in-None .ensures tt)
+    (c .loop-piece .inv ∙ ap (gather 16 exportPiece (Some (Some []))) (c .of-pieces .ensures))
+
+pub loop-piece-again-in-None-one : need.loop-piece-again-in-None-one
+loop-piece-again-in-None-one c =
+    let t = c .args .text .now in
+    turn 16 exportPiece (Some (exportsGot t (c .loop-piece .all))) (Some (exportsGot t (c .exceed .last .self))) _ _ _ _ (c .in-Some .ensures tt)
+    (ap (λ o. Some (mapped (map (exportIn t)) o)) (c .exceed .ensures) ∙ ap (added 16 (Some (exportsGot t (c .loop-piece .all)))) (sym (ap (λ o. Some (mapped (exportIn t) o)) (c .in-None-one .is)) ∙ c .in-Some-export .ensures tt))
+    (c .loop-piece .inv)
+
+pub loop-piece-again : need.loop-piece-again
+loop-piece-again c =
+    let t = c .args .text .now in
+    turn 16 exportPiece (Some (exportsGot t (c .loop-piece .all))) (Some (exportsGot t (c .add .last .self))) _ _ _ _ (c .in-Some .ensures tt)
+    (ap Some (ap (mapped (map (exportIn t))) (c .add .ensures) ∙ map-put (exportIn t) 16 (gathered (c .loop-piece .all)) (c .in-Some-one .entry))
+    ∙ ap (added 16 (Some (exportsGot t (c .loop-piece .all)))) (sym (ap (λ o. Some (mapped (exportIn t) o)) (c .in-Some-one .is)) ∙ c .in-Some-export .ensures tt))
+    (c .loop-piece .inv)
+
+pub returns : need.returns
+returns c =
+    sym (ap (gather 16 exportPiece (Some (exportsGot (c .args .text .now) (c .loop-piece .all)))) (c .in-rest .ensures tt .0)) ∙ c .loop-piece .inv ∙ ap (gather 16 exportPiece (Some (Some []))) (c .of-pieces .ensures)
