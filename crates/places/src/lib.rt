@@ -1,0 +1,4 @@
+// Sets of the places of a shelf.
+pub mod set;
+#[cfg(test)]
+mod tests;

@@ -1,0 +1,7 @@
+// Why something is refused.
+
+// Why a record is not pushed.
+#[derive(Clone, Copy)]
+pub enum PushRefusal {
+    Full,
+}

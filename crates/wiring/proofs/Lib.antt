@@ -1,0 +1,9 @@
+pub mod Sets
+pub mod Keeping
+pub mod Within
+pub mod Whole
+pub mod Cells
+pub mod Gather
+pub mod Counts
+pub mod Exported
+pub mod Ruled

@@ -1,0 +1,11 @@
+pub mod Candidates
+pub mod Rules
+pub mod Wirings
+pub mod Sources
+pub mod Conflicts
+pub mod Partial
+pub mod Laws
+pub mod Cells
+pub mod Chosen
+pub mod Counted
+pub mod Steps
