@@ -1,4 +1,4 @@
--- One piece more of a clause, and of a value.
+-- One parameter more of a clause.
 use Prim.Native.Nat.{ℕ}
 use mathlib.Core.List.{List, [], _∷_, map}
 use mathlib.Core.Path.{_≡_, refl, sym, ap, _∙_}

@@ -31,7 +31,7 @@ fn with_parameters(
     let mut clause = bare;
     while let Some(piece) = pieces.next(text) {
         let part = parameter(text, piece, grammar)?;
-        clause = with_parameter(clause, part, text)?;
+        clause = with_parameter(clause, part)?;
     }
     Some(clause)
 }
@@ -41,7 +41,7 @@ pub fn clause(text: &[u8], s: Span, grammar: Grammar) -> Option<RawEntry>
     requires { ⌜ length (now text) ≤ 65536 ⌝ }
     ensures { λ r. ⌜ mapped (rawIn (now (text .entry))) r ≡ clauseIn grammar (spanOf (now (text .entry)) s) ⌝ }
 {
-    let mut pieces = Cuts::of(text, s, b';', true);
+    let mut pieces = Cuts::of(s, b';', true);
     let name = pieces.next(text)?;
     if !is_name(bytes(text, name)) {
         return None;
@@ -61,7 +61,7 @@ pub fn follows_form(text: &[u8], s: Span, grammar: Grammar) -> bool
     requires { ⌜ length (now text) ≤ 65536 ⌝ }
     ensures { λ r. ⌜ r ≡ isSome (form grammar (spanOf (now (text .entry)) s)) ⌝ }
 {
-    let mut pieces = Cuts::of(text, s, b',', true);
+    let mut pieces = Cuts::of(s, b',', true);
     while let Some(piece) = pieces.next(text) {
         if clause(text, piece, grammar).is_none() {
             return false;

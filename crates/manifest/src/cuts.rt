@@ -1,7 +1,7 @@
 // The pieces of a part of a text, one after the other, as parts again.
-ghost use Prim.Native.Nat.{_≤_};
+ghost use Prim.Native.Nat.{ℕ, _≤_};
 ghost use mathlib.Core.Bool.{false};
-ghost use mathlib.Core.List.{[], _∷_};
+ghost use mathlib.Core.List.{List, [], _∷_};
 ghost use mathlib.Core.Path.{_≡_};
 ghost use lib.ListN.{length};
 ghost use Rattle.std.specs.Options.{Cases};
@@ -23,8 +23,8 @@ pub struct Cuts {
 
 impl Cuts {
     // With `quotes`, separators inside double quotes do not count.
-    pub fn of(text: &[u8], s: Span, separator: u8, quotes: bool) -> Cuts
-        ensures { λ r. ⌜ leftIn (now (text .entry)) r ≡ split quotes separator false (spanOf (now (text .entry)) s) ⌝ }
+    pub fn of(s: Span, separator: u8, quotes: bool) -> Cuts
+        ensures { λ r. ⌜ ((t : List ℕ) → leftIn t r ≡ split quotes separator false (spanOf t s)) ⌝ }
     {
         Cuts {
             rest: s,

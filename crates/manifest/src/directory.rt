@@ -47,7 +47,7 @@ fn read_lines(text: &[u8], all: Span) -> Result<Few<BundleEntry, 64>, Refusal>
     requires { ⌜ length (now text) ≤ 65536 ⌝ }
     ensures { λ r. ⌜ mapped (bundlesIn (now (text .entry))) firstNo r ≡ walk 0 start (parts 10 (spanOf (now (text .entry)) all)) ⌝ }
 {
-    let mut lines = Cuts::of(text, all, b'\n', false);
+    let mut lines = Cuts::of(all, b'\n', false);
     let mut places = Few::new(no_bundle());
     let mut draft = no_headers();
     let mut at = 0;
@@ -77,7 +77,7 @@ pub fn read_directory(text: &[u8]) -> Result<Few<BundleEntry, 64>, Refusal>
     if let Some(offset) = stray_line(text) {
         return Err(Refusal {
             question: Question::StrayByte,
-            offset: offset,
+            offset,
         });
     }
     if len == 0 {

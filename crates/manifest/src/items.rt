@@ -6,10 +6,10 @@ ghost use lib.ListN.{length};
 ghost use Rattle.std.specs.Options.{mapped, valueOr};
 ghost use Rattle.std.specs.declared.option.Option.the-variants.{Some};
 ghost use Rattle.text.specs.Splitting.{parts};
+ghost use Rattle.shelf.specs.declared.need.Resolution.the-variants.{Mandatory};
 ghost use Rattle.manifest.specs.Index.{exportIn, namesGot, needIn};
 ghost use Rattle.manifest.specs.Parts.{namesIn};
 ghost use Rattle.manifest.specs.Spans.{spanOf};
-ghost use Rattle.shelf.specs.declared.need.Resolution.the-variants.{Mandatory};
 ghost use Rattle.manifest.specs.Stages.{exportPiece, fewNames, kept, kindBy, needPiece};
 ghost use Rattle.manifest.specs.Values.{rangeOr, shortName, versionOr};
 use crate::clause::RawEntry;
@@ -65,7 +65,7 @@ fn names(text: &[u8], list: Span) -> Gathered<Span, 8>
     requires { ⌜ length (now text) ≤ 65536 ⌝ }
     ensures { λ r. ⌜ namesGot (now (text .entry)) r ≡ kept fewNames (parts 44 (spanOf (now (text .entry)) list)) ⌝ }
 {
-    let mut pieces = Cuts::of(text, list, b',', false);
+    let mut pieces = Cuts::of(list, b',', false);
     let mut all = Gathered::new(no_span());
     while let Some(name) = pieces.next(text) {
         if is_short(bytes(text, name)) {

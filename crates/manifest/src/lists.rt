@@ -26,7 +26,7 @@ pub fn exports(text: &[u8], value: Span) -> Option<Gathered<ExportEntry, 16>>
     requires { ⌜ length (now text) ≤ 65536 ⌝ }
     ensures { λ r. ⌜ mapped (exportsGot (now (text .entry))) r ≡ gather 16 exportPiece (Some (Some [])) (split true 44 false (spanOf (now (text .entry)) value)) ⌝ }
 {
-    let mut pieces = Cuts::of(text, value, b',', true);
+    let mut pieces = Cuts::of(value, b',', true);
     let mut all = Gathered::new(no_export());
     while let Some(piece) = pieces.next(text) {
         match export(text, piece) {
@@ -44,7 +44,7 @@ pub fn needs(text: &[u8], value: Span, grammar: Grammar) -> Option<Gathered<Need
     requires { ⌜ length (now text) ≤ 65536 ⌝ }
     ensures { λ r. ⌜ mapped (needsGot (now (text .entry))) r ≡ gather 16 (needPiece grammar) (Some (Some [])) (split true 44 false (spanOf (now (text .entry)) value)) ⌝ }
 {
-    let mut pieces = Cuts::of(text, value, b',', true);
+    let mut pieces = Cuts::of(value, b',', true);
     let mut all = Gathered::new(no_need());
     while let Some(piece) = pieces.next(text) {
         match need(text, piece, grammar) {

@@ -1,5 +1,6 @@
 // The parameters of a clause.
-ghost use Prim.Native.Nat.{_≤_};
+ghost use Prim.Native.Nat.{ℕ, _≤_};
+ghost use mathlib.Core.List.{List};
 ghost use mathlib.Core.Path.{_≡_};
 ghost use lib.Chars.{codes};
 ghost use lib.ListN.{length};
@@ -81,8 +82,8 @@ fn visibility_in(text: &[u8], s: Span) -> Option<Visibility>
 }
 
 // The clause with one parameter more, unless it had that already.
-pub fn with_parameter(c: RawEntry, p: Part, text: &[u8]) -> Option<RawEntry>
-    ensures { λ r. ⌜ mapped (rawIn (now (text .entry))) r ≡ withParameter (rawIn (now (text .entry)) c) (partIn (now (text .entry)) p) ⌝ }
+pub fn with_parameter(c: RawEntry, p: Part) -> Option<RawEntry>
+    ensures { λ r. ⌜ ((t : List ℕ) → mapped (rawIn t) r ≡ withParameter (rawIn t c) (partIn t p)) ⌝ }
 {
     match p {
         Part::Version(version) => match c.version {

@@ -6,4 +6,4 @@ returns-in-Break-part c = rw (c .from-residual .ensures) (part-stop _ _ _ _ _ _ 
 
 pub returns-in-Break-clause : need.returns-in-Break-clause
 returns-in-Break-clause c =
-    rw (c .from-residual-in-Break-clause .ensures) (twice-stop _ _ _ _ _ _ _ (c .in-Some .ensures tt) (c .in-Continue-part .ensures tt) (c .in-Break-clause .ensures tt) (c .loop-piece .inv))
+    rw (c .from-residual-in-Break-clause .ensures) (twice-stop _ _ _ _ _ _ _ (c .in-Some .ensures tt) (c .in-Continue-part .ensures tt) (c .in-Break-clause .ensures tt (c .args .text .now)) (c .loop-piece .inv))

@@ -22,7 +22,7 @@ loop-line-holds c =
     let none : Fits noHeaders = omega arith in (
       ap (λ b. walk 0 (record { bundles = map (bundleIn t) b; headers = headersIn t (c .no-headers-draft .result) }) ls) (c .new-places .ensures)
           ∙ ap (λ h. walk 0 (record { bundles = []; headers = h }) ls) (c .no-headers-draft .ensures t),
-      omega (arith, ap total (c .of-lines .ensures), total-split false 10 false (spanOf t (c .args .all)), c .pre),
+      omega (arith, ap total (c .of-lines .ensures t), total-split false 10 false (spanOf t (c .args .all)), c .pre),
       subst Fits (sym (c .no-headers-draft .ensures t)) none,
     )
 

@@ -15,4 +15,4 @@ loop-name-again-then-is-short c =
 pub returns : need.returns
 returns c =
     let t = c .args .text .now in
-    names-done (namesGot t (c .loop-name .all)) (parts 44 (spanOf t (c .args .list))) (leftIn t (c .loop-name .pieces)) (c .in-rest .ensures tt .0) (c .loop-name .inv ∙ ap (gather 8 namePiece (Some (Some []))) (c .of-pieces .ensures))
+    names-done (namesGot t (c .loop-name .all)) (parts 44 (spanOf t (c .args .list))) (leftIn t (c .loop-name .pieces)) (c .in-rest .ensures tt .0) (c .loop-name .inv ∙ ap (gather 8 namePiece (Some (Some []))) (c .of-pieces .ensures t))

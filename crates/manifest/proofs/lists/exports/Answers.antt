@@ -15,7 +15,7 @@ loop-piece-holds c = ap (λ a. gather 16 exportPiece (Some (mapped (map (exportI
 pub returns-in-None : need.returns-in-None
 returns-in-None c =
     stop 16 exportPiece (exportsGot (c .args .text .now) (c .loop-piece .all)) _ _ _ _ (c .in-Some .ensures tt) (c .in-None .ensures tt)
-    (c .loop-piece .inv ∙ ap (gather 16 exportPiece (Some (Some []))) (c .of-pieces .ensures))
+    (c .loop-piece .inv ∙ ap (gather 16 exportPiece (Some (Some []))) (c .of-pieces .ensures (c .args .text .now)))
 
 pub loop-piece-again-in-None-one : need.loop-piece-again-in-None-one
 loop-piece-again-in-None-one c =
@@ -34,4 +34,4 @@ loop-piece-again c =
 
 pub returns : need.returns
 returns c =
-    sym (ap (gather 16 exportPiece (Some (exportsGot (c .args .text .now) (c .loop-piece .all)))) (c .in-rest .ensures tt .0)) ∙ c .loop-piece .inv ∙ ap (gather 16 exportPiece (Some (Some []))) (c .of-pieces .ensures)
+    sym (ap (gather 16 exportPiece (Some (exportsGot (c .args .text .now) (c .loop-piece .all)))) (c .in-rest .ensures tt .0)) ∙ c .loop-piece .inv ∙ ap (gather 16 exportPiece (Some (Some []))) (c .of-pieces .ensures (c .args .text .now))
