@@ -1,0 +1,10 @@
+pub mod Chains
+pub mod Filling
+pub mod Gathering
+pub mod Past
+pub mod Cells
+pub mod Wanted
+pub mod Served
+pub mod Asked
+pub mod Offered
+pub mod Distinct
