@@ -1,4 +1,6 @@
 // A digest of a shelf for one controller: numbers and sets of places where the shelf has names and ranges, so that a search need not ask it.
+#![tactic(auto)]
+
 mod bucket;
 mod candidates;
 pub mod digest;

@@ -1,4 +1,6 @@
 // Which ranges hold which values: a line of standard input asks, a line of standard output answers.
+#![tactic(auto)]
+
 use query::answer::Answer;
 use query::line::without_line_feed;
 use query::tally::Tally;

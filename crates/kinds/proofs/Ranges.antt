@@ -1,10 +1,10 @@
 -- The range that is read is the one that the text means, and there is no other.
-use Rattle.std.proofs.Common.{◌≡◌, ℕ, suc, ◌+◌, ◌-◌, ◌<◌, ◌≤◌, Bool, true, false, cond, not, ◌&&◌, eqb, ltb, ◌⊎◌, List, [], ◌∷◌, ◌++◌, length, get_or, take, drop, Some, None, Option, sym, refl, ap, ◌∙◌, subst, inl, inr, add-one, arith, length-append}
+use Rattle.std.proofs.Common.{◌≡◌, ℕ, suc, ◌+◌, ◌-◌, ◌<◌, ◌≤◌, Bool, true, false, cond, not, ◌&&◌, eqb, ltb, List, [], ◌∷◌, ◌++◌, length, get_or, take, drop, Some, None, Option, sym, refl, ap, ◌∙◌, inl, inr, add-one, arith, length-append}
 use native.Mathlib.Nat.{sub-zero}
 use Rattle.std.specs.Option.{option_map}
-use Rattle.std.proofs.lemmas.List.{take_at, drop_at, get_or_at, length_push, nil_from_length, take_rest, take_more, take-append-drop, drop_more, take_all}
-use Rattle.std.proofs.lemmas.Bool.{ltb-true, ltb-false, lt-ltb, le-ltb, and_parts, eqb-true, not-true}
-use Rattle.text.specs.Bytes.{every, lacks}
+use Rattle.std.proofs.lemmas.List.{take_at, get_or_at, length_push, nil_from_length, take_rest, take_more, take-append-drop, drop_more, take_all}
+use Rattle.std.proofs.lemmas.Bool.{ltb-true, lt-ltb, le-ltb, eqb-true}
+use Rattle.text.specs.Bytes.{lacks}
 use Rattle.text.specs.Splitting.{reach}
 use Rattle.kinds.specs.declared.range.End.{End}
 use Rattle.kinds.specs.declared.range.Range.{Range}

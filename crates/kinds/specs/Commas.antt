@@ -1,18 +1,18 @@
 -- What reads as a number or as a version has no comma in it.
 use Rattle.std.specs.Prelude.{◌≡◌, ℕ, Bool, true, false, cond, not, ◌&&◌, List, [], ◌∷◌, ◌++◌, length, drop, Some, None, Option, ◌==◌, nat_lt, refl}
-use Rattle.std.proofs.Common.{arith, sym, ap, subst, ◌∙◌}
+use Rattle.std.proofs.Common.{arith, subst}
 use Rattle.std.specs.List.{AllByRecursion as All}
 use Rattle.std.specs.Option.{option_map}
 use Rattle.std.proofs.lemmas.Bool.{and_parts, and_from}
 use Rattle.std.proofs.lemmas.Bool.Decides.{nat_tests}
 use Rattle.text.specs.Bytes.{digit, word, every, lacks}
-use Rattle.text.specs.Splitting.{split, parts, rejoined}
+use Rattle.text.specs.Splitting.{parts, rejoined}
 use Rattle.text.proofs.Splits.{split-rejoined}
 use Rattle.kinds.specs.declared.controller.ControllerNumber.{ControllerNumber}
 use Rattle.kinds.specs.declared.version.Version.{Version}
 use Rattle.kinds.specs.Controller.{controller, numbered as controller_of}
 use Rattle.kinds.specs.Number.{decimal, number}
-use Rattle.kinds.specs.Version.{front, closes, numbered, version_of, version}
+use Rattle.kinds.specs.Version.{front, closes, numbered, version}
 
 -- what passes one test of every byte passes a weaker one
 every_weaker : (p q : ℕ → Bool) → ((b : ℕ) → p b ≡ true → q b ≡ true) → (text : List ℕ) → every p text ≡ true → every q text ≡ true

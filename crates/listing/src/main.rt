@@ -1,4 +1,6 @@
 // What a directory of manifests says, place by place, or why it is refused.
+#![tactic(auto)]
+
 mod refused;
 mod shelves;
 

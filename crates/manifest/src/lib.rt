@@ -1,4 +1,6 @@
 // Directories of manifests: what their text means, and the questions that it is asked.
+#![tactic(auto)]
+
 ghost use Rattle.manifest.specs.Examples.{Examples};
 ghost use Rattle.manifest.specs.Laws.{EveryOrder, LawfulFormed, OnlyWritten, PointsAtLines, ReadsBack, ReadsLawful};
 

@@ -1,4 +1,6 @@
 // The answer to one line of the program `holds`.
+#![tactic(auto)]
+
 pub mod answer;
 pub mod laws;
 pub mod line;

@@ -1,4 +1,6 @@
 // Shelves: what a shelf means, the questions that it answers, and the layer that hides places.
+#![tactic(auto)]
+
 pub mod export;
 pub mod hide;
 mod limits;

@@ -1,5 +1,5 @@
 -- The pieces of a text between separators.
-use Rattle.std.specs.Prelude.{ℕ, suc, Bool, true, false, cond, not, ◌&&◌, List, [], ◌∷◌, ◌++◌, ◌==◌}
+use Rattle.std.specs.Prelude.{ℕ, suc, Bool, false, cond, not, ◌&&◌, List, [], ◌∷◌, ◌++◌, ◌==◌}
 
 -- Whether separators inside double quotes count as well (`false`), or only those outside (`true`), says `quotes`;
 -- `inside` is where the text begins.

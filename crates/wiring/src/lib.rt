@@ -1,4 +1,6 @@
 // Wirings of a shelf's bundles: what is offered for a need, what is chosen for it, and the laws of sources, touches and conflicts.
+#![tactic(auto)]
+
 pub mod candidates;
 pub mod choice;
 pub mod laws;

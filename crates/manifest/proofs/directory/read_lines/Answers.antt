@@ -29,7 +29,7 @@ loop-line-preserved c =
     let s = state_in t c.loop-line.places c.loop-line.draft in
     let s' = state_in t c.line-step.new.places c.line-step.new.draft in
     let l = span_of t c.in-Some.line in (
-      walk_turn c.loop-line.at s s' l c.bytes.result.now _ _ _ c.bytes.ensures c.in-Some.ensures c.in-default-line-step.ensures c.loop-line.invariant.0,
+      walk_turn c.loop-line.at s s' l c.bytes.result.now _ _ _ c.bytes.ensures c.in-Some.ensures c.in_default-line-step.ensures c.loop-line.invariant.0,
       bound_turn c.loop-line.at l c.bytes.result.now _ _ c.bytes.ensures c.in-Some.ensures c.loop-line.invariant.1,
-      fits-step s s' l c.in-default-line-step.ensures c.loop-line.invariant.2,
+      fits-step s s' l c.in_default-line-step.ensures c.loop-line.invariant.2,
     )

@@ -3,20 +3,20 @@ use Rattle.manifest.specs.Spans.{span_of}
 use Rattle.manifest.proofs.Entries.{no_clause, no_version, long_name, many_uses, small_one, over_none, all_got}
 use Rattle.manifest.proofs.items.export.Goals as goal
 
-pub returns-in-err-c : goal.returns-in-err-c
-returns-in-err-c c = rw c.from-residual.ensures (no_clause _ c.in-err-c.ensures)
+pub returns-in_err-c : goal.returns-in_err-c
+returns-in_err-c c = rw c.from_residual.ensures (no_clause _ c.in_err-c.ensures)
 
-pub returns-in-err-version : goal.returns-in-err-version
-returns-in-err-version c = rw c.from-residual-in-err-version.ensures (no_version _ _ c.in-ok-c.ensures c.in-err-version.ensures)
+pub returns-in_err-version : goal.returns-in_err-version
+returns-in_err-version c = rw c.from_residual-in_err-version.ensures (no_version _ _ c.in_ok-c.ensures c.in_err-version.ensures)
 
 pub returns-then-not-is-short : goal.returns-then-not-is-short
-returns-then-not-is-short c = long_name _ _ c.in-ok-c.ensures _ _ c.in-ok-version.ensures c.bytes.ensures c.if-not-is-short.ensures
+returns-then-not-is-short c = long_name _ _ c.in_ok-c.ensures _ _ c.in_ok-version.ensures c.bytes.ensures c.if-not-is-short.ensures
 
 pub returns-then-uses : goal.returns-then-uses
 returns-then-uses c =
-    many_uses _ _ c.in-ok-c.ensures _ c.in-ok-version.ensures (over_none (span_of c.args.text.now) c.used-names-uses.result c.if-uses.true ∙ c.used-names-uses.ensures)
+    many_uses _ _ c.in_ok-c.ensures _ c.in_ok-version.ensures (over_none (span_of c.args.text.now) c.used-names-uses.result c.if-uses.true ∙ c.used-names-uses.ensures)
 
 pub returns : goal.returns
 returns c =
-    small_one _ _ c.in-ok-c.ensures _ _ _ c.in-ok-version.ensures c.bytes.ensures c.if-not-is-short.ensures
+    small_one _ _ c.in_ok-c.ensures _ _ _ c.in_ok-version.ensures c.bytes.ensures c.if-not-is-short.ensures
     (all_got (span_of c.args.text.now) c.used-names-uses.result c.if-uses.false ∙ c.used-names-uses.ensures)

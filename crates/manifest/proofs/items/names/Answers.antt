@@ -13,4 +13,4 @@ loop-name-preserved-then-is-short c =
 pub returns : goal.returns
 returns c =
     let t = c.args.text.now in
-    names_done (names_got t c.loop-name.all) (parts 44 (span_of t c.args.list)) (left_in t c.loop-name.pieces) c.in-default.ensures.0 (c.loop-name.invariant ∙ ap (gather 8 name_piece (Some (Some []))) (c.of-pieces.ensures t))
+    names_done (names_got t c.loop-name.all) (parts 44 (span_of t c.args.list)) (left_in t c.loop-name.pieces) c.in_default.ensures.0 (c.loop-name.invariant ∙ ap (gather 8 name_piece (Some (Some []))) (c.of-pieces.ensures t))

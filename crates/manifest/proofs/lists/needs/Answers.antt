@@ -32,4 +32,4 @@ loop-piece-preserved c =
 
 pub returns : goal.returns
 returns c =
-    sym (ap (gather 16 (need_piece c.args.grammar) (Some (needs_got c.args.text.now c.loop-piece.all))) c.in-default.ensures.0) ∙ c.loop-piece.invariant ∙ ap (gather 16 (need_piece c.args.grammar) (Some (Some []))) (c.of-pieces.ensures c.args.text.now)
+    sym (ap (gather 16 (need_piece c.args.grammar) (Some (needs_got c.args.text.now c.loop-piece.all))) c.in_default.ensures.0) ∙ c.loop-piece.invariant ∙ ap (gather 16 (need_piece c.args.grammar) (Some (Some []))) (c.of-pieces.ensures c.args.text.now)

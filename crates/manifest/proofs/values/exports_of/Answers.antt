@@ -6,8 +6,8 @@ use Rattle.manifest.proofs.Entries.{all_got, over_none}
 use Rattle.manifest.proofs.Judges.{export_named, exports-judged, is_once, is_twice}
 use Rattle.manifest.proofs.values.exports_of.Goals as goal
 
-pub returns-in-default : goal.returns-in-default
-returns-in-default c = exports-judged (span_of c.args.text.now c.args.value) None c.if-not-follows-form.ensures c.in-default.ensures
+pub returns-in_default : goal.returns-in_default
+returns-in_default c = exports-judged (span_of c.args.text.now c.args.value) None c.if-not-follows-form.ensures c.in_default.ensures
 
 pub returns-then-all : goal.returns-then-all
 returns-then-all c =

@@ -7,8 +7,8 @@ use Rattle.manifest.proofs.Gathers.{judged}
 use Rattle.manifest.proofs.Judges.{few_enough, is_once, is_twice, need_named, needs-judged, too_many}
 use Rattle.manifest.proofs.values.needs_of.Goals as goal
 
-pub returns-in-default : goal.returns-in-default
-returns-in-default c = needs-judged c.args.grammar c.args.others (span_of c.args.text.now c.args.value) None c.if-not-follows-form.ensures c.in-default.ensures
+pub returns-in_default : goal.returns-in_default
+returns-in_default c = needs-judged c.args.grammar c.args.others (span_of c.args.text.now c.args.value) None c.if-not-follows-form.ensures c.in_default.ensures
 
 pub returns-then-all : goal.returns-then-all
 returns-then-all c =

@@ -10,10 +10,10 @@ pub returns-then-exports-gt-EXPORTS : goal.returns-then-exports-gt-EXPORTS
 returns-then-exports-gt-EXPORTS c =
     decides_no _ refl (λ few. omega (arith, few.most, length-map c.args.exports.now export_meant, c.if-exports-gt-EXPORTS.true))
 
-pub returns-then-few-uses : goal.returns-then-few-uses
-returns-then-few-uses c =
-    exports_keep c.args.exports.now c.is-clear.result c.if-exports-gt-EXPORTS.false (c.few-uses.ensures.0 c.if-few-uses.true) c.is-clear.ensures
+pub returns-then-few_uses : goal.returns-then-few_uses
+returns-then-few_uses c =
+    exports_keep c.args.exports.now c.is_clear.result c.if-exports-gt-EXPORTS.false (c.few_uses.ensures.0 c.if-few_uses.true) c.is_clear.ensures
 
-pub returns-else-few-uses : goal.returns-else-few-uses
-returns-else-few-uses c =
-    decides_no _ c.if-few-uses.false (λ few. both_ways _ c.if-few-uses.false (c.few-uses.ensures.1 few.uses))
+pub returns-else-few_uses : goal.returns-else-few_uses
+returns-else-few_uses c =
+    decides_no _ c.if-few_uses.false (λ few. both_ways _ c.if-few_uses.false (c.few_uses.ensures.1 few.uses))

@@ -7,7 +7,7 @@ use Rattle.shelf.proofs.Keeping.{needs_keep}
 use Rattle.shelf.proofs.limits.few_needs.Goals as goal
 
 pub returns-then-needs-le-NEEDS : goal.returns-then-needs-le-NEEDS
-returns-then-needs-le-NEEDS c = needs_keep c.args.needs.now c.is-clear.result c.if-needs-le-NEEDS.true c.is-clear.ensures
+returns-then-needs-le-NEEDS c = needs_keep c.args.needs.now c.is_clear.result c.if-needs-le-NEEDS.true c.is_clear.ensures
 
 pub returns-else-needs-le-NEEDS : goal.returns-else-needs-le-NEEDS
 returns-else-needs-le-NEEDS c =

@@ -4,11 +4,11 @@ use Rattle.shelf.proofs.Barred.{clear_below}
 use Rattle.shelf.proofs.Every.{decides_yes, decides_no}
 use Rattle.shelf.proofs.listed.is_clear.Goals as goal
 
-pub returns-then-is-barred : goal.returns-then-is-barred
-returns-then-is-barred g c = decides_no _ refl (λ clear. clear c.loop-i.i (c.is-barred.ensures.0 c.if-is-barred.true))
+pub returns-then-is_barred : goal.returns-then-is_barred
+returns-then-is_barred g c = decides_no _ refl (λ clear. clear c.loop-i.i (c.is_barred.ensures.0 c.if-is_barred.true))
 
 pub loop-i-preserved : goal.loop-i-preserved
-loop-i-preserved g c = below_more _ _ c.loop-i.invariant (not_from_Decides c.is-barred.result c.is-barred.ensures c.if-is-barred.false)
+loop-i-preserved g c = below_more _ _ c.loop-i.invariant (not_from_Decides c.is_barred.result c.is_barred.ensures c.if-is_barred.false)
 
 pub returns : goal.returns
 returns g c = decides_yes (clear_below g.T.Listed.barred c.args.items.now (λ k lt. c.loop-i.invariant k (omega arith)))

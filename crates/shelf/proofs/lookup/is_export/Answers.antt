@@ -5,4 +5,4 @@ use Rattle.shelf.proofs.lookup.is_export.Goals as goal
 pub returns-in-Some : goal.returns-in-Some
 returns-in-Some g c =
     let shelf = c.args.shelf.now in
-    tells (g.S.Shelf.meaning shelf) _ _ _ (offer_of c.in-Some.export) c.same-name.result (g.S.Shelf.formed shelf) c.in-Some.ensures c.same-name.ensures
+    tells (g.S.Shelf.meaning shelf) _ _ _ (offer_of c.in-Some.export) c.same_name.result (g.S.Shelf.formed shelf) c.in-Some.ensures c.same_name.ensures

@@ -1,5 +1,5 @@
 use Rattle.shelf.proofs.Keeping.{none-formed}
 use Rattle.shelf.proofs.plain.PlainShelf.empty.Goals as goal
 
-pub invariant-of-result : goal.invariant-of-result
-invariant-of-result c = (∣ none-formed ∣₁, tt)
+pub invariant_of-result : goal.invariant_of-result
+invariant_of-result c = (∣ none-formed ∣₁, tt)

@@ -1,4 +1,4 @@
 use Rattle.shelf.proofs.plain.PlainShelf.fill.Goals as goal
 
-pub invariant-of-self : goal.invariant-of-self
-invariant-of-self c = (∣ c.within-limits.ensures.0 c.if-not-within-limits.false ∣₁, tt)
+pub invariant_of-self : goal.invariant_of-self
+invariant_of-self c = (∣ c.within_limits.ensures.0 c.if-not-within_limits.false ∣₁, tt)

@@ -7,5 +7,5 @@ use Rattle.shelf.proofs.plain.PlainShelf.plain_export.Goals as goal
 
 pub returns : goal.returns
 returns c =
-    item_meant export_meant c.in-ok-bundle.field-0.exports.now c.args.j c.item.result c.item.ensures
-    ∙ ap (λ o. bound o (λ b. slice_get b.exports c.args.j)) c.in-ok-bundle.ensures
+    item_meant export_meant c.in_ok-bundle.field-0.exports.now c.args.j c.item.result c.item.ensures
+    ∙ ap (λ o. bound o (λ b. slice_get b.exports c.args.j)) c.in_ok-bundle.ensures

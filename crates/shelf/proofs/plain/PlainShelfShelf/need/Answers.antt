@@ -7,5 +7,5 @@ use Rattle.shelf.proofs.plain.PlainShelfShelf.need.Goals as goal
 
 pub returns : goal.returns
 returns c =
-    item_meant need_of c.in-ok-bundle.field-0.needs.now c.args.k c.item.result c.item.ensures
-    ∙ ap (λ o. bound o (λ b. slice_get b.needs c.args.k)) c.in-ok-bundle.ensures
+    item_meant need_of c.in_ok-bundle.field-0.needs.now c.args.k c.item.result c.item.ensures
+    ∙ ap (λ o. bound o (λ b. slice_get b.needs c.args.k)) c.in_ok-bundle.ensures

@@ -6,5 +6,5 @@ use Rattle.shelf.proofs.plain.PlainShelfShelf.used.Goals as goal
 
 pub returns : goal.returns
 returns c =
-    item_meant (λ x. x.now) c.in-ok-plain-export.field-0.uses.now c.args.k c.item.result c.item.ensures
-    ∙ ap (λ o. bound o (λ e. slice_get e.uses c.args.k)) c.in-ok-plain-export.ensures
+    item_meant (λ x. x.now) c.in_ok-plain_export.field-0.uses.now c.args.k c.item.result c.item.ensures
+    ∙ ap (λ o. bound o (λ e. slice_get e.uses c.args.k)) c.in_ok-plain_export.ensures
