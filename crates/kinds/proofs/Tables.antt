@@ -1,6 +1,6 @@
 -- A table of memberships, by one computed test over all its rows.
 use Rattle.std.proofs.Common.{◌≡◌, ℕ, ◌≤◌, Bool, true, false, cond, not, ◌&&◌, ◌⊎◌, List, [], ◌∷◌, Some, None, Decides, Option, ap, inl, inr, arith, rules, MatchOption}
-use Rattle.std.specs.List.{AllByRecursion as All}
+use Rattle.std.specs.List.{AllByRecursion}
 use Rattle.std.proofs.lemmas.Bool.{and_parts}
 use Rattle.std.proofs.lemmas.Bool.Decides.{Decides-and, nat_tests}
 use Rattle.kinds.specs.declared.range.End.{End}
@@ -53,7 +53,7 @@ row_right : (o : Option (Range Version)) (v : Version) (b : Bool) → verdict o 
 row_right None v b e = let z : ◌≡◌ {A = ℕ} 0 1 = cc in omega arith
 row_right (Some r) v b e = answered b (holding lower r v) (holding-decides lower version_either r v) e
 
-pub all_right : (rows : List (List ℕ × Version × Bool)) → right rows ≡ true → All Holding rows
+pub all_right : (rows : List (List ℕ × Version × Bool)) → right rows ≡ true → AllByRecursion Holding rows
 all_right [] e = tt
 all_right (row ∷ rows) e =
     let both = and_parts (verdict (range version row.0) row.1 row.2) (right rows) e in

@@ -1,7 +1,7 @@
 -- What reads as a number or as a version has no comma in it.
 use Rattle.std.specs.Prelude.{◌≡◌, ℕ, Bool, true, false, cond, not, ◌&&◌, List, [], ◌∷◌, ◌++◌, length, drop, Some, None, Option, ◌==◌, nat_lt, refl}
 use Rattle.std.proofs.Common.{arith, subst}
-use Rattle.std.specs.List.{AllByRecursion as All}
+use Rattle.std.specs.List.{AllByRecursion}
 use Rattle.std.specs.Option.{option_map}
 use Rattle.std.proofs.lemmas.Bool.{and_parts, and_from}
 use Rattle.std.proofs.lemmas.Bool.Decides.{nat_tests}
@@ -33,7 +33,7 @@ every_append p (x ∷ xs) ys h k =
     let both = and_parts (p x) (every p xs) h in and_from (p x) (every p (xs ++ ys)) both.0 (every_append p xs ys both.1 k)
 
 -- pieces without a comma, joined by dots, have none
-joined_lacks : (ps : List (List ℕ)) → All (λ p. lacks 44 p ≡ true) ps → lacks 44 (rejoined 46 ps) ≡ true
+joined_lacks : (ps : List (List ℕ)) → AllByRecursion (λ p. lacks 44 p ≡ true) ps → lacks 44 (rejoined 46 ps) ≡ true
 joined_lacks [] h = refl
 joined_lacks (p ∷ []) h = h.0
 joined_lacks (p ∷ (q ∷ ps)) h = every_append (λ x. not (x == 44)) p (46 ∷ rejoined 46 (q ∷ ps)) h.0 (joined_lacks (q ∷ ps) h.1)
@@ -65,7 +65,7 @@ all-numbered (Some x) (Some y) (Some w) v e = (x, y, w, refl, refl, refl)
 qualifier_lacks : (q : List ℕ) → (nat_lt 0 (length q) && every word q) ≡ true → lacks 44 q ≡ true
 qualifier_lacks q h = every_weaker word (λ x. not (x == 44)) word_no_comma q (and_parts (nat_lt 0 (length q)) (every word q) h).1
 
-parts_lack : (ps : List (List ℕ)) (x y z : ℕ) → closes (drop 3 ps) ≡ true → front ps ≡ Some x → front (drop 1 ps) ≡ Some y → front (drop 2 ps) ≡ Some z → All (λ p. lacks 44 p ≡ true) ps
+parts_lack : (ps : List (List ℕ)) (x y z : ℕ) → closes (drop 3 ps) ≡ true → front ps ≡ Some x → front (drop 1 ps) ≡ Some y → front (drop 2 ps) ≡ Some z → AllByRecursion (λ p. lacks 44 p ≡ true) ps
 parts_lack [] x y z h a b c = tt
 parts_lack (p ∷ []) x y z h a b c = (number-lacks p x a, tt)
 parts_lack (p ∷ (q ∷ [])) x y z h a b c = (number-lacks p x a, (number-lacks q y b, tt))

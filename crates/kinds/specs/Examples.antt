@@ -1,6 +1,6 @@
 -- Worked examples, as tables.
 use Rattle.std.specs.Prelude.{◌≡◌, ℕ, Bool, true, false, List, [], ◌∷◌, Some, None, codes, Option, MatchOption}
-use Rattle.std.specs.List.{AllByRecursion as All}
+use Rattle.std.specs.List.{AllByRecursion}
 use Rattle.kinds.specs.declared.controller.ControllerNumber.{ControllerNumber}
 use Rattle.kinds.specs.declared.version.Version.{Version}
 use Rattle.kinds.specs.Controller.{controller, numbered}
@@ -87,8 +87,8 @@ abbrev pub Nothing : Type 0
 Nothing = MatchOption (range version (codes "[2,1]")) ⊥ (λ r. (x : Version) → Holds lower r x → ⊥)
 
 pub record Examples : Type 0 where
-  pub of_versions : All ReadsAsVersion versions
-  pub of_controllers : All ReadsAsController controllers
-  pub of_no_ranges : All ReadsNot unreadable
-  pub of_memberships : All Holding memberships
+  pub of_versions : AllByRecursion ReadsAsVersion versions
+  pub of_controllers : AllByRecursion ReadsAsController controllers
+  pub of_no_ranges : AllByRecursion ReadsNot unreadable
+  pub of_memberships : AllByRecursion Holding memberships
   pub of_nothing : Nothing

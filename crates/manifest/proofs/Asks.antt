@@ -6,7 +6,7 @@ use Rattle.std.proofs.lemmas.List.{length-map}
 use Rattle.std.proofs.lemmas.Option.{slice_get_past}
 use Rattle.std.proofs.lemmas.Bool.{ltb-true, ltb-false}
 use Rattle.std.specs.Option.{option_flatten, option_map}
-use Rattle.std.specs.List.{AllByRecursion as All, slice_get}
+use Rattle.std.specs.List.{AllByRecursion, slice_get}
 use Rattle.shelf.specs.Meaning.{Meaning, bound, bundle_at, export_at, need_at, used_at}
 use Rattle.manifest.specs.declared.entry.BundleEntry.{BundleEntry}
 use Rattle.manifest.specs.declared.entry.ExportEntry.{ExportEntry}
@@ -96,9 +96,9 @@ module _ (t : List ℕ) (p : Few BundleEntry 64) where
     pub need_there : (k : ℕ) (n : NeedEntry) → Some n ≡ slice_get (held b.needs) k → 0 < length (span_of t n.name)
     need_there k n ne = ∥∥₁_elim h le_prop (λ e. at-nth (λ x. Filled x.name) (needs_in t b.needs) k (need_in t n) (filled e).needs (sym (entry_at (need_in t) (held b.needs) k (Some n) ne)))
 
-    export_filled : (j : ℕ) (x : ExportEntry) → Some x ≡ slice_get (held b.exports) j → Ok (bundles_in t p) ≡ reading t → Filled (span_of t x.name) × All Filled (map (span_of t) (held x.uses))
+    export_filled : (j : ℕ) (x : ExportEntry) → Some x ≡ slice_get (held b.exports) j → Ok (bundles_in t p) ≡ reading t → Filled (span_of t x.name) × AllByRecursion Filled (map (span_of t) (held x.uses))
     export_filled j x xe e =
-        at-nth (λ y. Filled y.name × All Filled y.uses) (exports_in t b.exports) j (export_in t x) (filled e).exports (sym (entry_at (export_in t) (held b.exports) j (Some x) xe))
+        at-nth (λ y. Filled y.name × AllByRecursion Filled y.uses) (exports_in t b.exports) j (export_in t x) (filled e).exports (sym (entry_at (export_in t) (held b.exports) j (Some x) xe))
 
     pub export-there : (j : ℕ) (x : ExportEntry) → Some x ≡ slice_get (held b.exports) j → 0 < length (span_of t x.name)
     export-there j x xe = ∥∥₁_elim h le_prop (λ e. (export_filled j x xe e).0)

@@ -1,8 +1,8 @@
 -- Whatever is lawful is read from its text.
-use Rattle.std.proofs.Common.{◌≡◌, ℕ, zero, suc, ◌+◌, ◌<◌, ◌≤◌, Bool, true, false, cond, not, ◌&&◌, eqb, List, [], ◌∷◌, ◌++◌, map, length, is_some, Some, None, Ok, codes, filter, Option, Result, unwrap_or, sym, refl, ap, ◌∙◌, subst, append_assoc, arith, length-append}
+use Rattle.std.proofs.Common.{◌≡◌, ℕ, zero, suc, ◌+◌, ◌<◌, ◌≤◌, Bool, true, false, cond, not, ◌&&◌, eqb, List, [], ◌∷◌, ◌++◌, map, length, Some, None, Ok, codes, filter, Option, Result, unwrap_or, sym, refl, ap, ◌∙◌, subst, append_assoc, arith, length-append}
 use Rattle.std.specs.Option.{option_map}
 use Rattle.std.specs.Result as results
-use Rattle.std.specs.List.{AllByRecursion as All, slice_get}
+use Rattle.std.specs.List.{AllByRecursion, slice_get}
 use Rattle.std.proofs.ByRecursion.{All-append, All-weaker, all_kept_by, kept_by_passes}
 use Rattle.std.proofs.lemmas.List.{append-nil}
 use Rattle.std.proofs.lemmas.Bool.{and_parts, or_from, eqb-true, ne_eqb, lt-ltb, le-leb, not-true, both_ways}
@@ -11,7 +11,7 @@ use Rattle.text.specs.Splitting.{parts}
 use Rattle.text.proofs.Equals.{equal-decides}
 use Rattle.kinds.specs.declared.controller.ControllerNumber.{ControllerNumber}
 use Rattle.kinds.specs.declared.range.Range.TheVariants.{AtLeast, Between}
-use Rattle.kinds.specs.Controller.{controller as controller_number, numbered as controller_of}
+use Rattle.kinds.specs.Controller.{controller as controller_number}
 use Rattle.kinds.specs.declared.range.Range.{Range}
 use Rattle.kinds.specs.declared.version.Version.{Version}
 use Rattle.kinds.specs.RangeText.{range}
@@ -98,7 +98,7 @@ module _ {X : Type 0} (bs : List Bundle) (k : Header) (text : X → List ℕ) (h
   goes_given (Some x) s e =
       (state bs (h (Some x)), line_back (state bs (h None)) k (text x) s.0 ∙ ap (results.result_map_both (λ g. state bs g) (λ (n : ℕ). n)) e, refl)
 
-lines_print : {X : Type 0} (k : Header) (text : X → List ℕ) (o : Option X) → If o (λ x. Sound (text x)) → All Prints (lines k (option_map text o))
+lines_print : {X : Type 0} (k : Header) (text : X → List ℕ) (o : Option X) → If o (λ x. Sound (text x)) → AllByRecursion Prints (lines k (option_map text o))
 lines_print k text None s = tt
 lines_print k text (Some x) s = (line_prints k (text x) s.1, tt)
 
@@ -177,22 +177,22 @@ nth-within (x ∷ xs) (suc i) a h = omega (arith, nth-within xs i a h)
 
 -- what is known of the needs of one header
 record Side (k : Bool) (ns : List Need) : Type 0 where
-  kinds : All (Kind k) ns
-  writable : All WritableNeed ns
+  kinds : AllByRecursion (Kind k) ns
+  writable : AllByRecursion WritableNeed ns
   once : Once (SameName (λ n. n.name)) ns
 
 module _ (xs ys : List Need) (few : FewNeeds (xs ++ ys)) where
-  once-left : (k : Bool) → All (Kind k) xs → Once (SameName (λ n. n.name)) xs
+  once-left : (k : Bool) → AllByRecursion (Kind k) xs → Once (SameName (λ n. n.name)) xs
   once-left k h i j a b p q r = few.once i j a b (nth_left xs ys i a p) (nth_left xs ys j b q) (at-nth (Kind k) xs i a h p ∙ sym (at-nth (Kind k) xs j b h q)) r
 
-  once-right : (k : Bool) → All (Kind k) ys → Once (SameName (λ n. n.name)) ys
+  once-right : (k : Bool) → AllByRecursion (Kind k) ys → Once (SameName (λ n. n.name)) ys
   once-right k h i j a b p q r =
       let u = nth_right xs ys i a p in
       let v = nth_right xs ys j b q in
       let e = few.once u.0 v.0 a b u.2 v.2 (at-nth (Kind k) ys i a h p ∙ sym (at-nth (Kind k) ys j b h q)) r in
       omega (arith, u.1, v.1, e)
 
-module _ (ns : List Need) (few : FewNeeds ns) (h : All WritableNeed ns) where
+module _ (ns : List Need) (few : FewNeeds ns) (h : AllByRecursion WritableNeed ns) where
   split : imports ns ++ requires ns ≡ ns
   split = needs-split ns few.order
 
@@ -313,7 +313,7 @@ module _ (b : Bundle) (w : Writable b) where
   controllers_sound = if_either (λ r. Sound (range_text controller_text r)) (takes_all b.controllers) b.controllers (controllers_filled b.controllers w.controllers, value_prints (range_text controller_text b.controllers) controllers-bytes)
 
   exports-given : If (given b.exports) (λ es. Sound (exports_text es))
-  exports-given = if_given (All WritableExport) (λ es. Sound (exports_text es)) b.exports w.exports exports_sound
+  exports-given = if_given (AllByRecursion WritableExport) (λ es. Sound (exports_text es)) b.exports w.exports exports_sound
 
   imports-known : Side true (imports b.needs)
   imports-known = imports_side b.needs w.few.needs w.needs
@@ -327,7 +327,7 @@ module _ (b : Bundle) (w : Writable b) where
   requires-given : If (given (requires b.needs)) (λ ns. Sound (needs_text Requires ns))
   requires-given = if_given (Side false) (λ ns. Sound (needs_text Requires ns)) (requires b.needs) requires-known (λ n ns s. requires_sound n ns s.kinds s.writable)
 
-  manifest_prints : All Prints (manifest_lines b)
+  manifest_prints : AllByRecursion Prints (manifest_lines b)
   manifest_prints = (
     line_prints SymbolicName b.name name_sound.1,
     All-append Prints (version_lines b) (from_controllers b) (lines_print BundleVersion version_text (version_given b.version) version_sound)
@@ -377,7 +377,7 @@ module _ (bs : List Bundle) (b : Bundle) (w : Writable b) where
       exports_goes : Goes (state bs (heads b.name v c None None None)) (export_lines b) (state bs (heads b.name v c (given b.exports) None None))
       exports_goes =
           goes_given bs ExportPackage exports_text (λ o. heads b.name v c o None None) (given b.exports) (exports-given b w)
-          (if_given (λ es. FewExports es × All WritableExport es) (λ es. with_header (heads b.name v c None None None) ExportPackage (exports_text es) ≡ Ok (heads b.name v c (Some es) None None)) b.exports (w.few.exports, w.exports)
+          (if_given (λ es. FewExports es × AllByRecursion WritableExport es) (λ es. with_header (heads b.name v c None None None) ExportPackage (exports_text es) ≡ Ok (heads b.name v c (Some es) None None)) b.exports (w.few.exports, w.exports)
           (λ e es h. adds (exports_in (exports_text (e ∷ es))) (e ∷ es) (λ xs. heads b.name v c (Some xs) None None) (exports_back e es h.0 h.1)))
 
       module _ (e : Option (List Export)) where
@@ -442,11 +442,11 @@ written-text : (bs : List Bundle) → written bs ≡ ended (all_lines bs)
 written-text [] = refl
 written-text (b ∷ bs) = ended-both (manifest_lines b) (all_lines bs) (manifest_text b) (written bs) (manifest-text b) (written-text bs)
 
-all_print : (bs : List Bundle) → All Writable bs → All Prints (all_lines bs)
+all_print : (bs : List Bundle) → AllByRecursion Writable bs → AllByRecursion Prints (all_lines bs)
 all_print [] h = tt
 all_print (b ∷ bs) h = All-append Prints (manifest_lines b) (all_lines bs) (manifest_prints b h.0) (all_print bs h.1)
 
-all_right : {X : Type 0} (P : X → Type 0) (xs ys : List X) → All P (xs ++ ys) → All P ys
+all_right : {X : Type 0} (P : X → Type 0) (xs ys : List X) → AllByRecursion P (xs ++ ys) → AllByRecursion P ys
 all_right P [] ys h = h
 all_right P (x ∷ xs) ys h = all_right P xs ys h.1
 
@@ -478,7 +478,7 @@ all_end b [] = subst Ends (sym (append-nil (manifest_lines b))) (manifest_ends b
 all_end b (c ∷ bs) = ends_more (line SymbolicName b.name) (from_version b) (all_lines (c ∷ bs)) (all_end c bs)
 
 -- such lines are read from their text
-lines-read : (l : List ℕ) (ls : List (List ℕ)) (t : State) → All Prints (l ∷ ls) → Ends (l ∷ ls) → length (ended (l ∷ ls)) ≤ 65536 → Goes start (l ∷ ls) t → reading (ended (l ∷ ls)) ≡ Ok t.bundles
+lines-read : (l : List ℕ) (ls : List (List ℕ)) (t : State) → AllByRecursion Prints (l ∷ ls) → Ends (l ∷ ls) → length (ended (l ∷ ls)) ≤ 65536 → Goes start (l ∷ ls) t → reading (ended (l ∷ ls)) ≡ Ok t.bundles
 unfolding reading
 lines-read l ls t prints ends small goes =
     let text = ended (l ∷ ls) in

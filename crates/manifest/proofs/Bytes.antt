@@ -1,6 +1,6 @@
 -- Tests of every byte of a text, and the bytes of names.
 use Rattle.std.proofs.Common.{◌≡◌, ℕ, Bool, true, false, ◌||◌, eqb, List, [], ◌∷◌, ◌++◌, refl, subst, arith}
-use Rattle.std.specs.List.{AllByRecursion as All}
+use Rattle.std.specs.List.{AllByRecursion}
 use Rattle.std.proofs.ByRecursion.{All-weaker}
 use Rattle.std.proofs.lemmas.Bool.{and_parts, and_from}
 use Rattle.std.proofs.lemmas.Bool.Decides.{nat_tests}
@@ -20,7 +20,7 @@ pub every_append : (p : ℕ → Bool) (xs ys : List ℕ) → every p xs ≡ true
 every_append p [] ys h k = k
 every_append p (x ∷ xs) ys h k = let both = and_parts (p x) (every p xs) h in and_from (p x) (every p (xs ++ ys)) both.0 (every_append p xs ys both.1 k)
 
-pub every_join : (p : ℕ → Bool) (b : ℕ) → p b ≡ true → (ps : List (List ℕ)) → All (λ x. every p x ≡ true) ps → every p (rejoined b ps) ≡ true
+pub every_join : (p : ℕ → Bool) (b : ℕ) → p b ≡ true → (ps : List (List ℕ)) → AllByRecursion (λ x. every p x ≡ true) ps → every p (rejoined b ps) ≡ true
 every_join p b e [] h = refl
 every_join p b e (x ∷ []) h = h.0
 every_join p b e (x ∷ (y ∷ ps)) h = every_append p x (b ∷ rejoined b (y ∷ ps)) h.0 (and_from (p b) (every p (rejoined b (y ∷ ps))) e (every_join p b e (y ∷ ps) h.1))

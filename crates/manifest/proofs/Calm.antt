@@ -1,6 +1,6 @@
 -- Pieces put together are split again where no separator stands in them outside quotes.
 use Rattle.std.proofs.Common.{◌≡◌, ℕ, Bool, true, false, not, ◌&&◌, eqb, List, [], ◌∷◌, ◌++◌, refl, ap, ◌∙◌, arith}
-use Rattle.std.specs.List.{AllByRecursion as All}
+use Rattle.std.specs.List.{AllByRecursion}
 use Rattle.std.proofs.lemmas.Bool.{and_parts, eq-eqb, not-true}
 use Rattle.text.specs.Bytes.{every, lacks}
 use Rattle.text.specs.Splitting.{turned, on_first, split, rejoined}
@@ -55,7 +55,7 @@ pub calm-lacks : (sep : ℕ) (xs : List ℕ) → lacks sep xs ≡ true → Calm 
 calm-lacks sep xs h = calm-every (λ x. not (eqb x sep)) (at sep) false (λ x k. (not-true (eqb x sep) k, refl)) xs h
 
 -- pieces put together with another byte between them
-pub calm_join : (stop : ℕ → Bool) (quotes : Bool) (b : ℕ) → stop b ≡ false → turned quotes false b ≡ false → (ps : List (List ℕ)) → All (Calm stop quotes false) ps → Calm stop quotes false (rejoined b ps)
+pub calm_join : (stop : ℕ → Bool) (quotes : Bool) (b : ℕ) → stop b ≡ false → turned quotes false b ≡ false → (ps : List (List ℕ)) → AllByRecursion (Calm stop quotes false) ps → Calm stop quotes false (rejoined b ps)
 calm_join stop quotes b e f [] h = refl
 calm_join stop quotes b e f (p ∷ []) h = h.0
 calm_join stop quotes b e f (p ∷ (q ∷ ps)) h =
@@ -70,6 +70,6 @@ module _ (quotes : Bool) (sep : ℕ) where
   calm_more inside [] rest h = rw (h, eq-eqb sep sep refl) refl
   calm_more inside (x ∷ xs) rest h = rw h.0 (ap (on_first x) (calm_more (turned quotes inside x) xs rest h.1))
 
-  pub split-join : (p : List ℕ) (ps : List (List ℕ)) → All (Calm (at sep) quotes false) (p ∷ ps) → split quotes sep false (rejoined sep (p ∷ ps)) ≡ p ∷ ps
+  pub split-join : (p : List ℕ) (ps : List (List ℕ)) → AllByRecursion (Calm (at sep) quotes false) (p ∷ ps) → split quotes sep false (rejoined sep (p ∷ ps)) ≡ p ∷ ps
   split-join p [] h = calm_end false p h.0
   split-join p (q ∷ ps) h = calm_more false p (rejoined sep (q ∷ ps)) h.0 ∙ ap (λ r. p ∷ r) (split-join q ps h.1)

@@ -1,14 +1,13 @@
 -- Exports and needs are read from the text of their clauses, which has nothing unprintable in it.
 use Rattle.std.proofs.Common.{◌≡◌, ℕ, zero, suc, ◌+◌, ◌<◌, ◌≤◌, Bool, true, false, not, ◌&&◌, leb, List, [], ◌∷◌, ◌++◌, map, length, Some, None, Ok, codes, Option, unwrap_or, sym, refl, ap, ◌∙◌, arith, length-append}
 use Rattle.std.specs.Option.{option_map}
-use Rattle.std.specs.List.{AllByRecursion as All, slice_get}
+use Rattle.std.specs.List.{AllByRecursion, slice_get}
 use Rattle.std.proofs.ByRecursion.{All-weaker, All-map}
 use Rattle.std.proofs.lemmas.Option.{MatchOption-at_some}
 use Rattle.std.proofs.lemmas.Bool.{and_from, or_from, not_from_false, le-leb}
 use Rattle.text.specs.Bytes.{equal}
 use Rattle.text.specs.Splitting.{rejoined}
 use Rattle.text.proofs.Equals.{equal-decides}
-use Rattle.kinds.specs.RangeText.{range}
 use Rattle.shelf.specs.Meaning.{Name, Export, Need, is_import, FewExports}
 use Rattle.shelf.specs.declared.need.NeedKind.{NeedKind}
 use Rattle.shelf.specs.declared.need.NeedKind.TheVariants.{Import, Require}
@@ -69,11 +68,11 @@ module _ {X : Type 0} (g : Grammar) (reads : RawClause → Option X) (few : List
   each-says [] = refl
   each-says (x ∷ xs) = rw (said x, each-says xs) refl
 
-  each-reads : (xs : List X) → All (λ x. reads (raw x) ≡ Some x) xs → each reads (map raw xs) ≡ Some xs
+  each-reads : (xs : List X) → AllByRecursion (λ x. reads (raw x) ≡ Some x) xs → each reads (map raw xs) ≡ Some xs
   each-reads [] h = refl
   each-reads (x ∷ xs) h = let a = h.0 in let b = each-reads xs h.1 in rw (a, b) refl
 
-  clauses_back : (x : X) (xs : List X) → All (λ y. LawfulClause g (shape y)) (x ∷ xs) → All (λ y. reads (raw y) ≡ Some y) (x ∷ xs) → few (x ∷ xs) ≡ true → Once (SameName name) (x ∷ xs)
+  clauses_back : (x : X) (xs : List X) → AllByRecursion (λ y. LawfulClause g (shape y)) (x ∷ xs) → AllByRecursion (λ y. reads (raw y) ≡ Some y) (x ∷ xs) → few (x ∷ xs) ≡ true → Once (SameName name) (x ∷ xs)
       → clauses_in g reads few name (clauses_text g (map shape (x ∷ xs))) ≡ Ok (x ∷ xs)
   clauses_back x xs lawful back small once =
       let written : form g (clauses_text g (map shape (x ∷ xs))) ≡ Some (map raw (x ∷ xs)) =
@@ -100,7 +99,7 @@ export-says e = by e.uses
     by [] = refl
     by (u ∷ us) = refl
 
-uses-lawful : (us : List Name) → All WritableName us → All (LawfulParameter Exports) (uses_parameter us)
+uses-lawful : (us : List Name) → AllByRecursion WritableName us → AllByRecursion (LawfulParameter Exports) (uses_parameter us)
 uses-lawful [] h = tt
 uses-lawful (u ∷ us) h = ((refl, λ e. let z : ◌≡◌ {A = ℕ} 0 1 = cc in omega arith, All-weaker WritableName (λ n. is_name n ≡ true) (λ n k. k.0) (u ∷ us) h), tt)
 
@@ -120,11 +119,11 @@ small_test e h k =
     and_from (short_name e.name) (leb (length e.uses) 8 && all short_name e.uses) (short_test e.name h.0)
     (and_from (leb (length e.uses) 8) (all short_name e.uses) (le-leb (length e.uses) 8 k) (All-all short_name e.uses (All-weaker WritableName (λ n. short_name n ≡ true) short_test e.uses h.2)))
 
-all_small : (es : List Export) → All WritableExport es → ((j : ℕ) (e : Export) → slice_get es j ≡ Some e → length e.uses ≤ 8) → all small_export es ≡ true
+all_small : (es : List Export) → AllByRecursion WritableExport es → ((j : ℕ) (e : Export) → slice_get es j ≡ Some e → length e.uses ≤ 8) → all small_export es ≡ true
 all_small [] h f = refl
 all_small (e ∷ es) h f = and_from (small_export e) (all small_export es) (small_test e h.0 (f zero e refl)) (all_small es h.1 (λ j. f (suc j)))
 
-pub exports_back : (e : Export) (es : List Export) → FewExports (e ∷ es) → All WritableExport (e ∷ es) → exports_in (clauses_text Exports (map export_clause (e ∷ es))) ≡ Ok (e ∷ es)
+pub exports_back : (e : Export) (es : List Export) → FewExports (e ∷ es) → AllByRecursion WritableExport (e ∷ es) → exports_in (clauses_text Exports (map export_clause (e ∷ es))) ≡ Ok (e ∷ es)
 exports_back e es f h =
     clauses_back Exports export_of few_exports (λ x. x.name) export_clause export_raw export-says e es
     (All-weaker WritableExport (λ x. LawfulClause Exports (export_clause x)) export-lawful (e ∷ es) h)
@@ -152,30 +151,30 @@ need_back kind n e h =
     ap (option_map (λ r. record { kind = kind; name = n.name; range = r; resolution = n.resolution })) (versions_back n.range h.1)
     ∙ ap (λ k. Some (record { kind = k; name = n.name; range = n.range; resolution = n.resolution })) (sym e)
 
-need_lawful : (g : Grammar) → has_resolution g ≡ true → (n : Need) → All (LawfulParameter g) (visibility_parameter n.kind) → WritableNeed n → LawfulClause g (need_clause n)
+need_lawful : (g : Grammar) → has_resolution g ≡ true → (n : Need) → AllByRecursion (LawfulParameter g) (visibility_parameter n.kind) → WritableNeed n → LawfulClause g (need_clause n)
 need_lawful g r n v h = (h.0.0, (value-lacks (range_text version_text n.range) (range-bytes WritableVersion version_text version-bytes n.range h.1), (r, v)))
 
 -- the needs of a header, which are all imports or none
 abbrev pub Kind : Bool → Need → Type 0
 Kind k n = is_import n.kind ≡ k
 
-few_test : (others : ℕ) (ns : List Need) → others + length ns ≤ 16 → All WritableNeed ns → few_needs others ns ≡ true
+few_test : (others : ℕ) (ns : List Need) → others + length ns ≤ 16 → AllByRecursion WritableNeed ns → few_needs others ns ≡ true
 few_test others ns l h = and_from (leb (others + length ns) 16) (all (λ n. short_name n.name) ns) (le-leb (others + length ns) 16 l) (All-all (λ n. short_name n.name) ns (All-weaker WritableNeed (λ n. short_name n.name ≡ true) (λ n k. short_test n.name k.0) ns h))
 
-module _ (g : Grammar) (k : Bool) (reads : RawClause → Option Need) (has : has_resolution g ≡ true) (shows : (kind : NeedKind) → is_import kind ≡ k → All (LawfulParameter g) (visibility_parameter kind)) where
-  needs-lawful : (ns : List Need) → All (Kind k) ns → All WritableNeed ns → All (λ n. LawfulClause g (need_clause n)) ns
+module _ (g : Grammar) (k : Bool) (reads : RawClause → Option Need) (has : has_resolution g ≡ true) (shows : (kind : NeedKind) → is_import kind ≡ k → AllByRecursion (LawfulParameter g) (visibility_parameter kind)) where
+  needs-lawful : (ns : List Need) → AllByRecursion (Kind k) ns → AllByRecursion WritableNeed ns → AllByRecursion (λ n. LawfulClause g (need_clause n)) ns
   needs-lawful ns a h = all_both (Kind k) WritableNeed (λ n. LawfulClause g (need_clause n)) ns (λ n e w. need_lawful g has n (shows n.kind e) w) a h
 
-  needs_back : ((n : Need) → Kind k n → WritableNeed n → reads (need_raw n) ≡ Some n) → (others : ℕ) (n : Need) (ns : List Need) → others + length (n ∷ ns) ≤ 16 → All (Kind k) (n ∷ ns) → All WritableNeed (n ∷ ns) → Once (SameName (λ m. m.name)) (n ∷ ns)
+  needs_back : ((n : Need) → Kind k n → WritableNeed n → reads (need_raw n) ≡ Some n) → (others : ℕ) (n : Need) (ns : List Need) → others + length (n ∷ ns) ≤ 16 → AllByRecursion (Kind k) (n ∷ ns) → AllByRecursion WritableNeed (n ∷ ns) → Once (SameName (λ m. m.name)) (n ∷ ns)
       → clauses_in g reads (few_needs others) (λ m. m.name) (clauses_text g (map need_clause (n ∷ ns))) ≡ Ok (n ∷ ns)
   needs_back back others n ns l a h once =
       clauses_back g reads (few_needs others) (λ m. m.name) need_clause need_raw need_says n ns (needs-lawful (n ∷ ns) a h) (all_both (Kind k) WritableNeed (λ m. reads (need_raw m) ≡ Some m) (n ∷ ns) back a h) (few_test others (n ∷ ns) l h) once
 
-shows_import : (kind : NeedKind) → is_import kind ≡ true → All (LawfulParameter Imports) (visibility_parameter kind)
+shows_import : (kind : NeedKind) → is_import kind ≡ true → AllByRecursion (LawfulParameter Imports) (visibility_parameter kind)
 shows_import Import e = tt
 shows_import (Require v) e = let z : ◌≡◌ {A = ℕ} 0 1 = cc in absurd (omega arith)
 
-shows_require : (kind : NeedKind) → is_import kind ≡ false → All (LawfulParameter Requires) (visibility_parameter kind)
+shows_require : (kind : NeedKind) → is_import kind ≡ false → AllByRecursion (LawfulParameter Requires) (visibility_parameter kind)
 shows_require Import e = let z : ◌≡◌ {A = ℕ} 0 1 = cc in absurd (omega arith)
 shows_require (Require v) e = (refl, tt)
 
@@ -187,11 +186,11 @@ is_require : (kind : NeedKind) → is_import kind ≡ false → kind ≡ Require
 is_require Import e = let z : ◌≡◌ {A = ℕ} 0 1 = cc in absurd (omega arith)
 is_require (Require v) e = refl
 
-pub imports_back : (others : ℕ) (n : Need) (ns : List Need) → others + length (n ∷ ns) ≤ 16 → All (λ m. is_import m.kind ≡ true) (n ∷ ns) → All WritableNeed (n ∷ ns) → Once (SameName (λ m. m.name)) (n ∷ ns)
+pub imports_back : (others : ℕ) (n : Need) (ns : List Need) → others + length (n ∷ ns) ≤ 16 → AllByRecursion (λ m. is_import m.kind ≡ true) (n ∷ ns) → AllByRecursion WritableNeed (n ∷ ns) → Once (SameName (λ m. m.name)) (n ∷ ns)
     → imports_in others (clauses_text Imports (map need_clause (n ∷ ns))) ≡ Ok (n ∷ ns)
 imports_back = needs_back Imports true import_of refl shows_import (λ n e w. need_back Import n (is-import n.kind e) w)
 
-pub requires_back : (others : ℕ) (n : Need) (ns : List Need) → others + length (n ∷ ns) ≤ 16 → All (λ m. is_import m.kind ≡ false) (n ∷ ns) → All WritableNeed (n ∷ ns) → Once (SameName (λ m. m.name)) (n ∷ ns)
+pub requires_back : (others : ℕ) (n : Need) (ns : List Need) → others + length (n ∷ ns) ≤ 16 → AllByRecursion (λ m. is_import m.kind ≡ false) (n ∷ ns) → AllByRecursion WritableNeed (n ∷ ns) → Once (SameName (λ m. m.name)) (n ∷ ns)
     → requires_in others (clauses_text Requires (map need_clause (n ∷ ns))) ≡ Ok (n ∷ ns)
 requires_back = needs_back Requires false require_of refl shows_require (λ n e w. need_back (Require (unwrap_or (seen n.kind) Private)) n (is_require n.kind e) w)
 
@@ -222,13 +221,13 @@ joined_filled : (sep : ℕ) (p : List ℕ) (ps : List (List ℕ)) → 0 < length
 joined_filled sep p [] h = h
 joined_filled sep p (q ∷ ps) h = omega (arith, length-append p (sep ∷ rejoined sep (q ∷ ps)))
 
-clause_prints : (g : Grammar) (c : Clause) → LawfulClause g c → All Shown c.parameters → Prints (clause_text g c)
+clause_prints : (g : Grammar) (c : Clause) → LawfulClause g c → AllByRecursion Shown c.parameters → Prints (clause_text g c)
 clause_prints g c h k =
     every_join printable 59 refl (c.name ∷ map (parameter_text g) c.parameters)
     (name_prints c.name h.0, All-map Prints (parameter_text g) c.parameters (all_both (LawfulParameter g) Shown (λ p. Prints (parameter_text g p)) c.parameters (parameter_prints g) h.1 k))
 
 module _ {X : Type 0} (P : X → Type 0) (g : Grammar) (shape : X → Clause) (lawful : (x : X) → P x → LawfulClause g (shape x)) where
-  clauses_print : ((x : X) → P x → All Shown (shape x).parameters) → (xs : List X) → All P xs → Prints (clauses_text g (map shape xs))
+  clauses_print : ((x : X) → P x → AllByRecursion Shown (shape x).parameters) → (xs : List X) → AllByRecursion P xs → Prints (clauses_text g (map shape xs))
   clauses_print shown xs h =
       every_join printable 44 refl (map (clause_text g) (map shape xs))
       (All-map Prints (clause_text g) (map shape xs) (All-map (λ c. Prints (clause_text g c)) shape xs (All-weaker P (λ x. Prints (clause_text g (shape x))) (λ x p. clause_prints g (shape x) (lawful x p) (shown x p)) xs h)))
@@ -236,33 +235,33 @@ module _ {X : Type 0} (P : X → Type 0) (g : Grammar) (shape : X → Clause) (l
   clauses_filled : (x : X) (xs : List X) → P x → 0 < length (clauses_text g (map shape (x ∷ xs)))
   clauses_filled x xs p = joined_filled 44 (clause_text g (shape x)) (map (clause_text g) (map shape xs)) (joined_filled 59 (shape x).name (map (parameter_text g) (shape x).parameters) (name_filled (shape x).name (lawful x p).0))
 
-uses_shown : (us : List Name) → All Shown (uses_parameter us)
+uses_shown : (us : List Name) → AllByRecursion Shown (uses_parameter us)
 uses_shown [] = tt
 uses_shown (u ∷ us) = (tt, tt)
 
-export_shown : (e : Export) → WritableExport e → All Shown (export_clause e).parameters
+export_shown : (e : Export) → WritableExport e → AllByRecursion Shown (export_clause e).parameters
 export_shown e h = (value_prints (version_text e.version) (version-bytes e.version h.1), uses_shown e.uses)
 
-visibility_shown : (kind : NeedKind) → All Shown (visibility_parameter kind)
+visibility_shown : (kind : NeedKind) → AllByRecursion Shown (visibility_parameter kind)
 visibility_shown Import = tt
 visibility_shown (Require v) = (tt, tt)
 
-need_shown : (n : Need) → WritableNeed n → All Shown (need_clause n).parameters
+need_shown : (n : Need) → WritableNeed n → AllByRecursion Shown (need_clause n).parameters
 need_shown n h = (value_prints (range_text version_text n.range) (range-bytes WritableVersion version_text version-bytes n.range h.1), (tt, visibility_shown n.kind))
 
 -- a header's value that is not empty and prints
 abbrev pub Sound : List ℕ → Type 0
 Sound value = (0 < length value) × Prints value
 
-pub exports_sound : (e : Export) (es : List Export) → All WritableExport (e ∷ es) → Sound (clauses_text Exports (map export_clause (e ∷ es)))
+pub exports_sound : (e : Export) (es : List Export) → AllByRecursion WritableExport (e ∷ es) → Sound (clauses_text Exports (map export_clause (e ∷ es)))
 exports_sound e es h =
     (clauses_filled WritableExport Exports export_clause export-lawful e es h.0, clauses_print WritableExport Exports export_clause export-lawful export_shown (e ∷ es) h)
 
 abbrev NeedOf : Bool → Need → Type 0
 NeedOf k n = (is_import n.kind ≡ k) × WritableNeed n
 
-module _ (g : Grammar) (k : Bool) (has : has_resolution g ≡ true) (shows : (kind : NeedKind) → is_import kind ≡ k → All (LawfulParameter g) (visibility_parameter kind)) where
-  needs_sound : (n : Need) (ns : List Need) → All (Kind k) (n ∷ ns) → All WritableNeed (n ∷ ns) → Sound (clauses_text g (map need_clause (n ∷ ns)))
+module _ (g : Grammar) (k : Bool) (has : has_resolution g ≡ true) (shows : (kind : NeedKind) → is_import kind ≡ k → AllByRecursion (LawfulParameter g) (visibility_parameter kind)) where
+  needs_sound : (n : Need) (ns : List Need) → AllByRecursion (Kind k) (n ∷ ns) → AllByRecursion WritableNeed (n ∷ ns) → Sound (clauses_text g (map need_clause (n ∷ ns)))
   needs_sound n ns a h =
       let both = all_both (Kind k) WritableNeed (NeedOf k) (n ∷ ns) (λ m e w. (e, w)) a h in
       (clauses_filled (NeedOf k) g need_clause lawful n ns both.0, clauses_print (NeedOf k) g need_clause lawful (λ m p. need_shown m p.1) (n ∷ ns) both)
@@ -270,8 +269,8 @@ module _ (g : Grammar) (k : Bool) (has : has_resolution g ≡ true) (shows : (ki
       lawful : (m : Need) → NeedOf k m → LawfulClause g (need_clause m)
       lawful m p = need_lawful g has m (shows m.kind p.0) p.1
 
-pub imports_sound : (n : Need) (ns : List Need) → All (λ m. is_import m.kind ≡ true) (n ∷ ns) → All WritableNeed (n ∷ ns) → Sound (clauses_text Imports (map need_clause (n ∷ ns)))
+pub imports_sound : (n : Need) (ns : List Need) → AllByRecursion (λ m. is_import m.kind ≡ true) (n ∷ ns) → AllByRecursion WritableNeed (n ∷ ns) → Sound (clauses_text Imports (map need_clause (n ∷ ns)))
 imports_sound = needs_sound Imports true refl shows_import
 
-pub requires_sound : (n : Need) (ns : List Need) → All (λ m. is_import m.kind ≡ false) (n ∷ ns) → All WritableNeed (n ∷ ns) → Sound (clauses_text Requires (map need_clause (n ∷ ns)))
+pub requires_sound : (n : Need) (ns : List Need) → AllByRecursion (λ m. is_import m.kind ≡ false) (n ∷ ns) → AllByRecursion WritableNeed (n ∷ ns) → Sound (clauses_text Requires (map need_clause (n ∷ ns)))
 requires_sound = needs_sound Requires false refl shows_require

@@ -2,7 +2,7 @@
 use Rattle.std.proofs.Common.{◌≡◌, ℕ, suc, ◌+◌, ◌<◌, Bool, true, false, cond, not, ◌&&◌, eqb, List, [], ◌∷◌, ◌++◌, map, length, take, Some, None, codes, Option, sym, refl, ap, ◌∙◌, subst, arith}
 use Rattle.std.proofs.lemmas.Bool.{eqb-true, and_from}
 use Rattle.std.specs.Option.{option_map}
-use Rattle.std.specs.List.{AllByRecursion as All}
+use Rattle.std.specs.List.{AllByRecursion}
 use Rattle.text.specs.Bytes.{equal, lacks}
 use Rattle.text.proofs.Equals.{equal-decides}
 use Rattle.text.specs.Splitting.{split, parts, reach, rejoined}
@@ -60,7 +60,7 @@ quoted-says key text =
     (if_bound (λ u. text ≡ key ++ u) (λ u. text ≡ key ++ (34 ∷ u)) (after key text) (after (34 ∷ [])) (λ u h. if_map (λ w. u ≡ 34 ∷ w) (λ w. text ≡ key ++ (34 ∷ w)) (after (34 ∷ []) u) (λ w k. h ∙ ap (λ z. key ++ z) k) (after-says (34 ∷ []) u)) (after-says key text))
 
 abbrev NamesOf : List ℕ → List Name → Type 0
-NamesOf text ns = (ns ≡ [] → ⊥) × All (λ n. is_name n ≡ true) ns × (rejoined 44 ns ≡ text)
+NamesOf text ns = (ns ≡ [] → ⊥) × AllByRecursion (λ n. is_name n ≡ true) ns × (rejoined 44 ns ≡ text)
 
 not_none : (ps : List (List ℕ)) → 0 < length ps → ps ≡ [] → ⊥
 not_none ps h e = let no : 0 < length {A = List ℕ} [] = subst (λ q. 0 < length q) e h in omega (arith, no)
@@ -85,11 +85,11 @@ module _ (g : Grammar) (text : List ℕ) where
   version_parameter : If (option_map version (quoted_after (version_key g) text)) (Parameters g text)
   version_parameter = if_mapped (Parameters g text) (quoted_after (version_key g) text) version (if_map (Quotes (version_key g) text) (λ t. Parameters g text (version t)) (quoted_after (version_key g) text) (λ t h. (h.0, sym h.1)) (quoted-says (version_key g) text))
 
-  uses-names : If (bound (quoted_after (codes "uses:=") text) names_of) (λ ns. (ns ≡ [] → ⊥) × All (λ n. is_name n ≡ true) ns × (parameter_text g (uses ns) ≡ text))
-  uses-names = if_bound (Quotes (codes "uses:=") text) (λ ns. (ns ≡ [] → ⊥) × All (λ n. is_name n ≡ true) ns × (parameter_text g (uses ns) ≡ text)) (quoted_after (codes "uses:=") text) names_of (λ t h. if_map (NamesOf t) (λ ns. (ns ≡ [] → ⊥) × All (λ n. is_name n ≡ true) ns × (parameter_text g (uses ns) ≡ text)) (names_of t) (λ ns k. (k.0, k.1, ap (λ w. codes "uses:=" ++ quoted w) k.2 ∙ sym h.1)) (names_say t)) (quoted-says (codes "uses:=") text)
+  uses-names : If (bound (quoted_after (codes "uses:=") text) names_of) (λ ns. (ns ≡ [] → ⊥) × AllByRecursion (λ n. is_name n ≡ true) ns × (parameter_text g (uses ns) ≡ text))
+  uses-names = if_bound (Quotes (codes "uses:=") text) (λ ns. (ns ≡ [] → ⊥) × AllByRecursion (λ n. is_name n ≡ true) ns × (parameter_text g (uses ns) ≡ text)) (quoted_after (codes "uses:=") text) names_of (λ t h. if_map (NamesOf t) (λ ns. (ns ≡ [] → ⊥) × AllByRecursion (λ n. is_name n ≡ true) ns × (parameter_text g (uses ns) ≡ text)) (names_of t) (λ ns k. (k.0, k.1, ap (λ w. codes "uses:=" ++ quoted w) k.2 ∙ sym h.1)) (names_say t)) (quoted-says (codes "uses:=") text)
 
   uses-parameter : If (only_if (has_uses g) (option_map uses (bound (quoted_after (codes "uses:=") text) names_of))) (Parameters g text)
-  uses-parameter = if_only (Parameters g text) (has_uses g) (option_map uses (bound (quoted_after (codes "uses:=") text) names_of)) (λ has. if_mapped (Parameters g text) (bound (quoted_after (codes "uses:=") text) names_of) uses (if_map (λ ns. (ns ≡ [] → ⊥) × All (λ n. is_name n ≡ true) ns × (parameter_text g (uses ns) ≡ text)) (λ ns. Parameters g text (uses ns)) (bound (quoted_after (codes "uses:=") text) names_of) (λ ns k. ((has, k.0, k.1), k.2)) uses-names))
+  uses-parameter = if_only (Parameters g text) (has_uses g) (option_map uses (bound (quoted_after (codes "uses:=") text) names_of)) (λ has. if_mapped (Parameters g text) (bound (quoted_after (codes "uses:=") text) names_of) uses (if_map (λ ns. (ns ≡ [] → ⊥) × AllByRecursion (λ n. is_name n ≡ true) ns × (parameter_text g (uses ns) ≡ text)) (λ ns. Parameters g text (uses ns)) (bound (quoted_after (codes "uses:=") text) names_of) (λ ns k. ((has, k.0, k.1), k.2)) uses-names))
 
   resolution_parameter : If (only_if (has_resolution g) (option_map resolution (bound (after (codes "resolution:=") text) resolution_of))) (Parameters g text)
   resolution_parameter = if_only (Parameters g text) (has_resolution g) (option_map resolution (bound (after (codes "resolution:=") text) resolution_of)) (λ has. if_mapped (Parameters g text) (bound (after (codes "resolution:=") text) resolution_of) resolution (if_bound (λ t. text ≡ codes "resolution:=" ++ t) (λ r. Parameters g text (resolution r)) (after (codes "resolution:=") text) resolution_of (λ t h. if_map (λ r. t ≡ resolution_text r) (λ r. Parameters g text (resolution r)) (resolution_of t) (λ r k. (has, ap (λ w. codes "resolution:=" ++ w) (sym k) ∙ sym h)) (resolution-says t)) (after-says (codes "resolution:=") text)))
@@ -105,7 +105,7 @@ module _ (g : Grammar) (text : List ℕ) where
 
 -- clauses
 abbrev Given : Grammar → Option RawClause → List (List ℕ) → RawClause → Type 0
-Given g c ps d = (qs : List Parameter) × All (LawfulParameter g) qs × (map (parameter_text g) qs ≡ ps) × (with_parameters c (map Some qs) ≡ Some d)
+Given g c ps d = (qs : List Parameter) × AllByRecursion (LawfulParameter g) qs × (map (parameter_text g) qs ≡ ps) × (with_parameters c (map Some qs) ≡ Some d)
 
 nothing_more : (Q : RawClause → Type 0) (ps : List (Option Parameter)) → If (with_parameters None ps) Q
 nothing_more Q [] = tt
@@ -141,7 +141,7 @@ clause-says : (g : Grammar) (text : List ℕ) → If (clause g text) (Clauses g 
 clause-says g text = pieces_say g text (split true 59 false text) (split-rejoined true 59 false text)
 
 abbrev Listed : Grammar → List (List ℕ) → List RawClause → Type 0
-Listed g ts ds = (cs : List Clause) × All (LawfulClause g) cs × (map (clause_text g) cs ≡ ts) × (each says cs ≡ Some ds)
+Listed g ts ds = (cs : List Clause) × AllByRecursion (LawfulClause g) cs × (map (clause_text g) cs ≡ ts) × (each says cs ≡ Some ds)
 
 listed_step : (g : Grammar) (t : List ℕ) (ts : List (List ℕ)) (d : Option RawClause) (ds : Option (List RawClause)) → If d (Clauses g t) → If ds (Listed g ts) → If (bound d (λ y. option_map (λ ys. y ∷ ys) ds)) (Listed g (t ∷ ts))
 listed_step g t ts None ds h k = tt

@@ -1,6 +1,6 @@
 -- A text of printable lines, each with its line feed, is taken apart into those lines.
 use Rattle.std.proofs.Common.{◌≡◌, ℕ, ◌+◌, ◌-◌, true, false, not, ◌||◌, eqb, List, [], ◌∷◌, ◌++◌, length, get_or, None, sym, refl, ap, ◌∙◌, append_assoc, arith, length-append}
-use Rattle.std.specs.List.{AllByRecursion as All}
+use Rattle.std.specs.List.{AllByRecursion}
 use Rattle.std.proofs.ByRecursion.{All-append, All-weaker}
 use Rattle.std.proofs.lemmas.List.{take_at, get_or-append-add, length_push}
 use Rattle.std.proofs.lemmas.Bool.{and_from, or_right, eq-eqb}
@@ -37,26 +37,26 @@ no_feed b h = grind (arith, nat_tests)
 prints_calm : (l : List ℕ) → Prints l → Calm (at 10) false false l
 prints_calm l h = calm-lacks 10 l (every_weaker printable (λ x. not (eqb x 10)) no_feed l h)
 
-all-calm : (ls : List (List ℕ)) → All Prints ls → All (Calm (at 10) false false) ls
+all-calm : (ls : List (List ℕ)) → AllByRecursion Prints ls → AllByRecursion (Calm (at 10) false false) ls
 all-calm ls h = All-weaker Prints (Calm (at 10) false false) prints_calm ls h
 
 -- the lines, without that after the last line feed and with it
-pub lines_back : (l : List ℕ) (ls : List (List ℕ)) → All Prints (l ∷ ls) → lines_of (ended (l ∷ ls)) ≡ l ∷ ls
+pub lines_back : (l : List ℕ) (ls : List (List ℕ)) → AllByRecursion Prints (l ∷ ls) → lines_of (ended (l ∷ ls)) ≡ l ∷ ls
 lines_back l ls h =
     let front = rejoined 10 (l ∷ ls) in
     let n : length front ≡ length (front ++ (10 ∷ [])) - 1 = omega (arith, length_push front 10) in
     ap lines_of (ended-last l ls) ∙ ap (parts 10) (take_at front (10 ∷ []) (length (front ++ (10 ∷ [])) - 1) n) ∙ split-join false 10 l ls (all-calm (l ∷ ls) h)
 
-parts_back : (ls : List (List ℕ)) → All Prints ls → parts 10 (ended ls) ≡ ls ++ ([] ∷ [])
+parts_back : (ls : List (List ℕ)) → AllByRecursion Prints ls → parts 10 (ended ls) ≡ ls ++ ([] ∷ [])
 parts_back [] h = refl
 parts_back (l ∷ ls) h = ap (parts 10) (ended-rejoined (l ∷ ls)) ∙ split-join false 10 l (ls ++ ([] ∷ [])) (All-append (Calm (at 10) false false) (l ∷ ls) ([] ∷ []) (all-calm (l ∷ ls) h) (refl, tt))
 
 -- none of them has a stray byte
-none-stray : (n : ℕ) (ls : List (List ℕ)) → All Prints ls → stray_line n ls ≡ None
+none-stray : (n : ℕ) (ls : List (List ℕ)) → AllByRecursion Prints ls → stray_line n ls ≡ None
 none-stray n [] h = refl
 none-stray n (l ∷ ls) h = rw h.0 (none-stray (n + length l + 1) ls h.1)
 
-pub text-stray : (ls : List (List ℕ)) → All Prints ls → stray_line 0 (parts 10 (ended ls)) ≡ None
+pub text-stray : (ls : List (List ℕ)) → AllByRecursion Prints ls → stray_line 0 (parts 10 (ended ls)) ≡ None
 text-stray ls h = ap (stray_line 0) (parts_back ls h) ∙ none-stray 0 (ls ++ ([] ∷ [])) (All-append Prints ls ([] ∷ []) h (refl, tt))
 
 -- two line feeds at the end close a text

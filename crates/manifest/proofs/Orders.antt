@@ -1,7 +1,7 @@
 -- Clauses are read with their parameters in whatever order.
 use Rattle.std.proofs.Common.{◌≡◌, ℕ, suc, ◌+◌, Bool, true, false, cond, not, ◌||◌, eqb, List, [], ◌∷◌, ◌++◌, map, length, Some, None, codes, Option, sym, refl, ap, ◌∙◌, arith}
 use Rattle.std.specs.Option.{option_map, option_or}
-use Rattle.std.specs.List.{AllByRecursion as All}
+use Rattle.std.specs.List.{AllByRecursion}
 use Rattle.std.proofs.ByRecursion.{All-weaker, All-map}
 use Rattle.std.proofs.lemmas.List.{take_at, length_push}
 use Rattle.std.proofs.lemmas.Bool.{and_parts, or_parts, eq-eqb, not-true}
@@ -53,7 +53,7 @@ key_calm Requires = calm_test mark true false (codes "bundle-version=") refl
 keyed_calm : (key text : List ℕ) → Calm mark true false key → lacks 34 text ≡ true → Calm mark true false (key ++ quoted text)
 keyed_calm key text h k = calm-append mark true false key (quoted text) h (refl, quoted-calm text k)
 
-names_lack : (ns : List Name) → All (λ n. is_name n ≡ true) ns → lacks 34 (rejoined 44 ns) ≡ true
+names_lack : (ns : List Name) → AllByRecursion (λ n. is_name n ≡ true) ns → lacks 34 (rejoined 44 ns) ≡ true
 names_lack ns h = every_join (λ x. not (eqb x 34)) 44 refl ns (All-weaker (λ n. is_name n ≡ true) (λ n. lacks 34 n ≡ true) (λ n k. every_weaker in_name (λ x. not (eqb x 34)) unquote n (name-bytes n k)) ns h)
   where
     unquote : (b : ℕ) → in_name b ≡ true → not (eqb b 34) ≡ true
@@ -83,7 +83,7 @@ unquoted_back text h =
 quoted_back : (key text : List ℕ) → lacks 34 text ≡ true → quoted_after key (key ++ quoted text) ≡ Some text
 quoted_back key text h = ap (λ o. bound (bound o (after (34 ∷ []))) unquoted) (after_back key (quoted text)) ∙ unquoted_back text h
 
-names_back : (ns : List Name) → (ns ≡ [] → ⊥) → All (λ n. is_name n ≡ true) ns → names_of (rejoined 44 ns) ≡ Some ns
+names_back : (ns : List Name) → (ns ≡ [] → ⊥) → AllByRecursion (λ n. is_name n ≡ true) ns → names_of (rejoined 44 ns) ≡ Some ns
 names_back [] some h = absurd (some refl)
 names_back (n ∷ ns) some h =
     let whole : parts 44 (rejoined 44 (n ∷ ns)) ≡ n ∷ ns = split-join false 44 n ns (All-weaker (λ m. is_name m ≡ true) (Calm (at 44) false false) comma (n ∷ ns) h) in
@@ -115,13 +115,13 @@ parameter_back Imports (visibility v) h = let z : ◌≡◌ {A = ℕ} 0 1 = cc i
 parameter_back Requires (visibility Private) h = refl
 parameter_back Requires (visibility Reexport) h = refl
 
-parameters_back : (g : Grammar) (ps : List Parameter) → All (LawfulParameter g) ps → map (parameter_of g) (map (parameter_text g) ps) ≡ map Some ps
+parameters_back : (g : Grammar) (ps : List Parameter) → AllByRecursion (LawfulParameter g) ps → map (parameter_of g) (map (parameter_text g) ps) ≡ map Some ps
 parameters_back g [] h = refl
 parameters_back g (p ∷ ps) h = ap (λ o. o ∷ map (parameter_of g) (map (parameter_text g) ps)) (parameter_back g p h.0) ∙ ap (λ os. Some p ∷ os) (parameters_back g ps h.1)
 
 -- and so is a clause
 module _ (g : Grammar) (c : Clause) (h : LawfulClause g c) where
-  pieces_calm : All (Calm mark true false) (c.name ∷ map (parameter_text g) c.parameters)
+  pieces_calm : AllByRecursion (Calm mark true false) (c.name ∷ map (parameter_text g) c.parameters)
   pieces_calm = (name-calm c.name h.0, All-map (Calm mark true false) (parameter_text g) c.parameters (All-weaker (LawfulParameter g) (λ p. Calm mark true false (parameter_text g p)) (parameter_calm g) c.parameters h.1))
 
   clause-calm : Calm (at 44) true false (clause_text g c)
@@ -132,14 +132,14 @@ module _ (g : Grammar) (c : Clause) (h : LawfulClause g c) where
       ap (clause_of g) (split-join true 59 c.name (map (parameter_text g) c.parameters) (All-weaker (Calm mark true false) (Calm (at 59) true false) (calm_fewer mark (at 59) mark_semicolon true false) (c.name ∷ map (parameter_text g) c.parameters) pieces_calm))
       ∙ rw h.0 (ap (with_parameters (Some (bare c.name))) (parameters_back g c.parameters h.1))
 
-each_back : (g : Grammar) (cs : List Clause) → All (LawfulClause g) cs → each (clause g) (map (clause_text g) cs) ≡ each says cs
+each_back : (g : Grammar) (cs : List Clause) → AllByRecursion (LawfulClause g) cs → each (clause g) (map (clause_text g) cs) ≡ each says cs
 each_back g [] h = refl
 each_back g (c ∷ cs) h = let a = clause_back g c h.0 in let b = each_back g cs h.1 in rw (a, b) refl
 
 pub every-order : EveryOrder
 every-order g value cs w = go w.clauses w.some w.lawful w.text w.meaning
   where
-    go : (ds : List Clause) → (ds ≡ [] → ⊥) → All (LawfulClause g) ds → value ≡ clauses_text g ds → each says ds ≡ Some cs → form g value ≡ Some cs
+    go : (ds : List Clause) → (ds ≡ [] → ⊥) → AllByRecursion (LawfulClause g) ds → value ≡ clauses_text g ds → each says ds ≡ Some cs → form g value ≡ Some cs
     go [] some lawful text meaning = absurd (some refl)
     go (d ∷ ds) some lawful text meaning =
         ap (form g) text

@@ -2,7 +2,7 @@
 use Rattle.std.proofs.Common.{◌≡◌, ℕ, List, [], ◌∷◌, map, Some, None, Option, sym, refl, ap, ◌∙◌}
 use Rattle.shelf.specs.Meaning.{bound}
 use Rattle.manifest.specs.declared.header.Grammar.{Grammar}
-use Rattle.manifest.specs.Clauses.{RawClause, with_parameter, with_parameters, clause}
+use Rattle.manifest.specs.Clauses.{RawClause, with_parameter, with_parameters}
 use Rattle.manifest.specs.Parameters.{Parameter, parameter_of}
 
 none_stays : (ps : List (Option Parameter)) → with_parameters None ps ≡ None

@@ -1,6 +1,6 @@
 -- Clauses as they are written: with their parameters in some order.
-use Rattle.std.specs.Prelude.{◌≡◌, ℕ, Bool, true, List, [], ◌∷◌, ◌++◌, map, length, Some, None, codes, Option, ◌≢◌}
-use Rattle.std.specs.List.{AllByRecursion as All}
+use Rattle.std.specs.Prelude.{◌≡◌, ℕ, true, List, [], ◌∷◌, ◌++◌, map, Some, codes, Option, ◌≢◌}
+use Rattle.std.specs.List.{AllByRecursion}
 use Rattle.text.specs.Bytes.{lacks}
 use Rattle.text.specs.Splitting.{rejoined}
 use Rattle.shelf.specs.Meaning.{Name}
@@ -48,9 +48,9 @@ says c = with_parameters (Some (bare c.name)) (map Some c.parameters)
 -- What may be written: the header's own parameters, names, and texts without a double quote.
 abbrev pub LawfulParameter : Grammar → Parameter → Type 0
 LawfulParameter g (version text) = lacks 34 text ≡ true
-LawfulParameter g (uses names) = (has_uses g ≡ true) × (names ≢ []) × All (λ n. is_name n ≡ true) names
+LawfulParameter g (uses names) = (has_uses g ≡ true) × (names ≢ []) × AllByRecursion (λ n. is_name n ≡ true) names
 LawfulParameter g (resolution r) = has_resolution g ≡ true
 LawfulParameter g (visibility v) = has_visibility g ≡ true
 
 abbrev pub LawfulClause : Grammar → Clause → Type 0
-LawfulClause g c = (is_name c.name ≡ true) × All (LawfulParameter g) c.parameters
+LawfulClause g c = (is_name c.name ≡ true) × AllByRecursion (LawfulParameter g) c.parameters

@@ -1,5 +1,5 @@
 -- Short directories, and what they read as.
-use Rattle.std.specs.Prelude.{◌≡◌, ℕ, zero, suc, true, false, List, [], ◌∷◌, ◌++◌, length, replicate, Some, None, Ok, Err, codes, decimal, Option, Result}
+use Rattle.std.specs.Prelude.{◌≡◌, ℕ, zero, suc, true, false, List, [], ◌∷◌, ◌++◌, replicate, Ok, codes, decimal}
 use Rattle.kinds.specs.declared.version.Version.{Version}
 use Rattle.kinds.specs.declared.range.Range.TheVariants.{AtLeast, Between}
 use Rattle.shelf.specs.Meaning.{Bundle}

@@ -3,7 +3,7 @@ use Rattle.std.specs.Prelude.{◌≡◌, ℕ, zero, suc, Bool, true, false, cond
 use Rattle.std.proofs.Common.{arith}
 use Rattle.std.specs.Option.{option_map, option_or, unwrap_or}
 use Rattle.std.specs.Result as results
-use Rattle.std.specs.List.{AllByRecursion as All, slice_get}
+use Rattle.std.specs.List.{AllByRecursion, slice_get}
 use Rattle.std.proofs.lemmas.Option.{MatchOption-at_some}
 use Rattle.std.proofs.lemmas.Bool.{and_parts, and_from}
 use Rattle.shelf.specs.Meaning.{bound}
@@ -66,36 +66,36 @@ made_mapped P Q (Ok x) f g h = g x h
 made_mapped P Q (Err n) f g h = tt
 
 -- and of every element
-pub all_any : {X : Type 0} (P : X → Type 0) (xs : List X) → ((x : X) → P x) → All P xs
+pub all_any : {X : Type 0} (P : X → Type 0) (xs : List X) → ((x : X) → P x) → AllByRecursion P xs
 all_any P [] h = tt
 all_any P (x ∷ xs) h = (h x, all_any P xs h)
 
-pub all_both : {X : Type 0} (P Q R : X → Type 0) (xs : List X) → ((x : X) → P x → Q x → R x) → All P xs → All Q xs → All R xs
+pub all_both : {X : Type 0} (P Q R : X → Type 0) (xs : List X) → ((x : X) → P x → Q x → R x) → AllByRecursion P xs → AllByRecursion Q xs → AllByRecursion R xs
 all_both P Q R [] f h k = tt
 all_both P Q R (x ∷ xs) f h k = (f x h.0 k.0, all_both P Q R xs f h.1 k.1)
 
-pub all-nth : {X : Type 0} (P : X → Type 0) (xs : List X) (i : ℕ) → All P xs → If (slice_get xs i) P
+pub all-nth : {X : Type 0} (P : X → Type 0) (xs : List X) (i : ℕ) → AllByRecursion P xs → If (slice_get xs i) P
 all-nth P [] i h = tt
 all-nth P (x ∷ xs) zero h = h.0
 all-nth P (x ∷ xs) (suc i) h = all-nth P xs i h.1
 
-pub at-nth : {X : Type 0} (P : X → Type 0) (xs : List X) (i : ℕ) (a : X) → All P xs → slice_get xs i ≡ Some a → P a
+pub at-nth : {X : Type 0} (P : X → Type 0) (xs : List X) (i : ℕ) (a : X) → AllByRecursion P xs → slice_get xs i ≡ Some a → P a
 at-nth P xs i a h e = MatchOption-at_some (Unit {0}) P a e (all-nth P xs i h)
 
 -- a test of every element
-pub all-All : {X : Type 0} (p : X → Bool) (xs : List X) → all p xs ≡ true → All (λ x. p x ≡ true) xs
+pub all-All : {X : Type 0} (p : X → Bool) (xs : List X) → all p xs ≡ true → AllByRecursion (λ x. p x ≡ true) xs
 all-All p [] h = tt
 all-All p (x ∷ xs) h = let both = and_parts (p x) (all p xs) h in (both.0, all-All p xs both.1)
 
-pub All-all : {X : Type 0} (p : X → Bool) (xs : List X) → All (λ x. p x ≡ true) xs → all p xs ≡ true
+pub All-all : {X : Type 0} (p : X → Bool) (xs : List X) → AllByRecursion (λ x. p x ≡ true) xs → all p xs ≡ true
 All-all p [] h = refl
 All-all p (x ∷ xs) h = and_from (p x) (all p xs) h.0 (All-all p xs h.1)
 
-each_step : {Y : Type 0} (Q : Y → Type 0) (o : Option Y) (rest : Option (List Y)) → If o Q → If rest (All Q) → If (bound o (λ y. option_map (λ ys. y ∷ ys) rest)) (All Q)
+each_step : {Y : Type 0} (Q : Y → Type 0) (o : Option Y) (rest : Option (List Y)) → If o Q → If rest (AllByRecursion Q) → If (bound o (λ y. option_map (λ ys. y ∷ ys) rest)) (AllByRecursion Q)
 each_step Q None rest h k = tt
 each_step Q (Some y) None h k = tt
 each_step Q (Some y) (Some ys) h k = (h, k)
 
-pub each_holds : {X Y : Type 0} (P : X → Type 0) (Q : Y → Type 0) (f : X → Option Y) → ((x : X) → P x → If (f x) Q) → (xs : List X) → All P xs → If (each f xs) (All Q)
+pub each_holds : {X Y : Type 0} (P : X → Type 0) (Q : Y → Type 0) (f : X → Option Y) → ((x : X) → P x → If (f x) Q) → (xs : List X) → AllByRecursion P xs → If (each f xs) (AllByRecursion Q)
 each_holds P Q f g [] h = tt
 each_holds P Q f g (x ∷ xs) h = each_step Q (f x) (each f xs) (g x h.0) (each_holds P Q f g xs h.1)

@@ -1,5 +1,5 @@
 -- Header lines, and the headers of the manifest that is open.
-use Rattle.std.specs.Prelude.{ℕ, Bool, true, false, cond, not, ◌&&◌, List, [], ◌∷◌, length, take, drop, is_some, Some, None, Ok, Err, codes, Option, Result, nat_le}
+use Rattle.std.specs.Prelude.{ℕ, false, cond, not, ◌&&◌, List, [], ◌∷◌, length, take, drop, is_some, Some, None, Ok, codes, Option, Result, nat_le}
 use Rattle.std.specs.Option.{unwrap_or}
 use Rattle.std.specs.Result.{result_map_both}
 use Rattle.text.specs.Splitting.{reach}

@@ -3,7 +3,7 @@ use Rattle.std.specs.Prelude.{◌≡◌, ℕ, zero, suc, ◌+◌, ◌-◌, ◌<�
 use Rattle.std.proofs.Common.{arith, sym, ap, subst, ◌∙◌, length-append}
 use Rattle.std.specs.Option.{option_map, unwrap_or}
 use Rattle.std.specs.Result as results
-use Rattle.std.specs.List.{AllByRecursion as All, slice_get}
+use Rattle.std.specs.List.{AllByRecursion, slice_get}
 use Rattle.std.proofs.ByRecursion.{All-append, All-push, All-weaker}
 use Rattle.std.proofs.lemmas.List.{length_push}
 use Rattle.std.proofs.lemmas.Result.{IfOk-at_ok}
@@ -14,7 +14,7 @@ use Rattle.text.proofs.Equals.{equal-decides}
 use Rattle.kinds.specs.declared.range.End.{End}
 use Rattle.kinds.specs.declared.version.Version.{Version}
 use Rattle.kinds.specs.Number.{decimal, number}
-use Rattle.kinds.specs.declared.range.Range.TheVariants.{AtLeast, Between}
+use Rattle.kinds.specs.declared.range.Range.TheVariants.{AtLeast}
 use Rattle.kinds.specs.Controller.{controller as controller_number, numbered as controller_of}
 use Rattle.kinds.specs.RangeText.{end_of, floor_of, ceiling_of, between, range}
 use Rattle.kinds.specs.Version.{front, closes, numbered, version as read_version}
@@ -99,16 +99,16 @@ abbrev Named : Name → Type 0
 Named n = is_name n ≡ true
 
 abbrev NamedRaw : RawClause → Type 0
-NamedRaw c = Named c.name × If c.uses (All Named)
+NamedRaw c = Named c.name × If c.uses (AllByRecursion Named)
 
 abbrev NamedParameter : Parameter → Type 0
 NamedParameter (version text) = Unit {0}
-NamedParameter (uses names) = All Named names
+NamedParameter (uses names) = AllByRecursion Named names
 NamedParameter (resolution r) = Unit {0}
 NamedParameter (visibility v) = Unit {0}
 
-names-named : (text : List ℕ) → If (names_of text) (All Named)
-names-named text = if_cond (All Named) (all is_name (parts 44 text)) (Some (parts 44 text)) None (all-All is_name (parts 44 text)) tt
+names-named : (text : List ℕ) → If (names_of text) (AllByRecursion Named)
+names-named text = if_cond (AllByRecursion Named) (all is_name (parts 44 text)) (Some (parts 44 text)) None (all-All is_name (parts 44 text)) tt
 
 parameter_named : (g : Grammar) (text : List ℕ) → If (parameter_of g text) NamedParameter
 parameter_named g text =
@@ -119,7 +119,7 @@ parameter_named g text =
     let w = bound (after (codes "visibility:=") text) visibility_of in
     if_or NamedParameter (option_map version v) _ (if_mapped NamedParameter v version (if_any (λ _. Unit {0}) v (λ _. tt)))
     (if_or NamedParameter (only_if (has_uses g) (option_map uses u)) _
-    (if_only NamedParameter (has_uses g) (option_map uses u) (λ _. if_mapped NamedParameter u uses (if_bound (λ _. Unit {0}) (All Named) q names_of (λ t _. names-named t) (if_any (λ _. Unit {0}) q (λ _. tt)))))
+    (if_only NamedParameter (has_uses g) (option_map uses u) (λ _. if_mapped NamedParameter u uses (if_bound (λ _. Unit {0}) (AllByRecursion Named) q names_of (λ t _. names-named t) (if_any (λ _. Unit {0}) q (λ _. tt)))))
     (if_or NamedParameter (only_if (has_resolution g) (option_map resolution r)) _
     (if_only NamedParameter (has_resolution g) (option_map resolution r) (λ _. if_mapped NamedParameter r resolution (if_any (λ _. Unit {0}) r (λ _. tt))))
     (if_only NamedParameter (has_visibility g) (option_map visibility w) (λ _. if_mapped NamedParameter w visibility (if_any (λ _. Unit {0}) w (λ _. tt))))))
@@ -144,18 +144,18 @@ clause-named : (g : Grammar) (ps : List (List ℕ)) → If (clause_of g ps) Name
 clause-named g [] = tt
 clause-named g (n ∷ ps) = if_cond NamedRaw (is_name n) (with_parameters (Some (bare n)) (map (parameter_of g) ps)) None (λ e. parameters-named g (Some (bare n)) ps (e, tt)) tt
 
-form-named : (g : Grammar) (value : List ℕ) → If (form g value) (All NamedRaw)
+form-named : (g : Grammar) (value : List ℕ) → If (form g value) (AllByRecursion NamedRaw)
 form-named g value =
     let texts = split true 44 false value in
     each_holds (λ _. Unit {0}) NamedRaw (clause g) (λ text _. clause-named g (split true 59 false text)) texts (all_any (λ _. Unit {0}) texts (λ _. tt))
 
 -- the values of the headers
 clauses_hold : {X : Type 0} (g : Grammar) (reads : RawClause → Option X) (few : List X → Bool) (name : X → Name) (P : X → Type 0) (Q : List X → Type 0)
-    → ((c : RawClause) → NamedRaw c → If (reads c) P) → ((xs : List X) → All P xs → few xs ≡ true → Once (SameName name) xs → Q xs)
+    → ((c : RawClause) → NamedRaw c → If (reads c) P) → ((xs : List X) → AllByRecursion P xs → few xs ≡ true → Once (SameName name) xs → Q xs)
     → (value : List ℕ) → IfOk (clauses_in g reads few name value) Q
 clauses_hold g reads few name P Q one whole value =
-    made_gets (All NamedRaw) Q 7 (form g value) (λ cs. gets 8 (each reads cs) (λ xs. asks 9 (few xs) (asks 10 (none_twice (map name xs)) (Ok xs)))) (form-named g value) (λ cs h.
-    made_gets (All P) Q 8 (each reads cs) (λ xs. asks 9 (few xs) (asks 10 (none_twice (map name xs)) (Ok xs))) (each_holds NamedRaw P reads one cs h) (λ xs k.
+    made_gets (AllByRecursion NamedRaw) Q 7 (form g value) (λ cs. gets 8 (each reads cs) (λ xs. asks 9 (few xs) (asks 10 (none_twice (map name xs)) (Ok xs)))) (form-named g value) (λ cs h.
+    made_gets (AllByRecursion P) Q 8 (each reads cs) (λ xs. asks 9 (few xs) (asks 10 (none_twice (map name xs)) (Ok xs))) (each_holds NamedRaw P reads one cs h) (λ xs k.
     made_asks Q 9 (few xs) (asks 10 (none_twice (map name xs)) (Ok xs)) (λ f.
     made_asks Q 10 (none_twice (map name xs)) (Ok xs) (λ t. whole xs k f (once_named name xs t)))))
 
@@ -164,17 +164,17 @@ short_is n h = leb-true (length n) 48 h
 
 -- exports
 abbrev ReadExport : Export → Type 0
-ReadExport e = Named e.name × WritableVersion e.version × All Named e.uses
+ReadExport e = Named e.name × WritableVersion e.version × AllByRecursion Named e.uses
 
 abbrev GoodExports : List Export → Type 0
-GoodExports es = FewExports es × All WritableExport es
+GoodExports es = FewExports es × AllByRecursion WritableExport es
 
 export-read : (c : RawClause) → NamedRaw c → If (export_of c) ReadExport
 export-read c h =
     if_mapped ReadExport (version_or c.version) (λ v. record { name = c.name; version = v; uses = unwrap_or c.uses [] })
-    (if_map WritableVersion (λ v. Named c.name × WritableVersion v × All Named (unwrap_or c.uses [])) (version_or c.version) (λ v k. (h.0, k, if_value (All Named) c.uses [] h.1 tt)) (version-or c.version))
+    (if_map WritableVersion (λ v. Named c.name × WritableVersion v × AllByRecursion Named (unwrap_or c.uses [])) (version_or c.version) (λ v k. (h.0, k, if_value (AllByRecursion Named) c.uses [] h.1 tt)) (version-or c.version))
 
-small-uses : (e : Export) → small_export e ≡ true → (length e.name ≤ 48) × (length e.uses ≤ 8) × All (λ n. short_name n ≡ true) e.uses
+small-uses : (e : Export) → small_export e ≡ true → (length e.name ≤ 48) × (length e.uses ≤ 8) × AllByRecursion (λ n. short_name n ≡ true) e.uses
 small-uses e h =
     let a = and_parts (short_name e.name) (nat_le (length e.uses) 8 && all short_name e.uses) h in
     let b = and_parts (nat_le (length e.uses) 8) (all short_name e.uses) a.1 in
@@ -188,7 +188,7 @@ writable_export e h k =
 exports-good : (value : List ℕ) → IfOk (exports_in value) GoodExports
 exports-good value = clauses_hold Exports export_of few_exports (λ e. e.name) ReadExport GoodExports export-read good value
   where
-    good : (es : List Export) → All ReadExport es → few_exports es ≡ true → Once (SameName (λ e. e.name)) es → GoodExports es
+    good : (es : List Export) → AllByRecursion ReadExport es → few_exports es ≡ true → Once (SameName (λ e. e.name)) es → GoodExports es
     good es h f o =
         let both = and_parts (nat_le (length es) 16) (all small_export es) f in
         let small = all-All small_export es both.1 in (
@@ -205,14 +205,14 @@ abbrev ReadNeed : Bool → Need → Type 0
 ReadNeed k n = (is_import n.kind ≡ k) × Named n.name × WritableRange WritableVersion n.range
 
 abbrev GoodNeeds : Bool → List Need → Type 0
-GoodNeeds k ns = All (λ n. is_import n.kind ≡ k) ns × All WritableNeed ns × Once (SameName (λ n. n.name)) ns
+GoodNeeds k ns = AllByRecursion (λ n. is_import n.kind ≡ k) ns × AllByRecursion WritableNeed ns × Once (SameName (λ n. n.name)) ns
 
 need_read : (kind : NeedKind) (k : Bool) → is_import kind ≡ k → (c : RawClause) → NamedRaw c → If (need_of kind c) (ReadNeed k)
 need_read kind k e c h =
     if_mapped (ReadNeed k) (range_or c.version) (λ r. record { kind = kind; name = c.name; range = r; resolution = unwrap_or c.resolution Mandatory })
     (if_map (WritableRange WritableVersion) (λ r. (is_import kind ≡ k) × Named c.name × WritableRange WritableVersion r) (range_or c.version) (λ r l. (e, h.0, l)) (range-or c.version))
 
-needs-good : (k : Bool) (others : ℕ) (ns : List Need) → All (ReadNeed k) ns → few_needs others ns ≡ true → Once (SameName (λ n. n.name)) ns → (others + length ns ≤ 16) × GoodNeeds k ns
+needs-good : (k : Bool) (others : ℕ) (ns : List Need) → AllByRecursion (ReadNeed k) ns → few_needs others ns ≡ true → Once (SameName (λ n. n.name)) ns → (others + length ns ≤ 16) × GoodNeeds k ns
 needs-good k others ns h f o =
     let both = and_parts (nat_le (others + length ns) 16) (all (λ n. short_name n.name) ns) f in (
       leb-true (others + length ns) 16 both.0,
@@ -271,7 +271,7 @@ none-good : GoodHeaders no_headers
 none-good = record { name = tt; version = tt; controllers = tt; exports = tt; imports = tt; requires = tt; most = omega arith }
 
 -- the imports and then the requires
-order-append : (xs ys : List Need) → All (λ n. is_import n.kind ≡ true) xs → All (λ n. is_import n.kind ≡ false) ys
+order-append : (xs ys : List Need) → AllByRecursion (λ n. is_import n.kind ≡ true) xs → AllByRecursion (λ n. is_import n.kind ≡ false) ys
     → (i j : ℕ) (a b : Need) → i < j → slice_get (xs ++ ys) i ≡ Some a → slice_get (xs ++ ys) j ≡ Some b → is_import b.kind ≡ true → is_import a.kind ≡ true
 order-append [] ys h k i j a b l p q r = absurd (both_ways (is_import b.kind) (at-nth (λ n. is_import n.kind ≡ false) ys j b k q) r)
 order-append (x ∷ xs) ys h k zero j a b l p q r = let is : x ≡ a = cc in subst (λ n. is_import n.kind ≡ true) is h.0
@@ -281,7 +281,7 @@ order-append (x ∷ xs) ys h k (suc i) (suc j) a b l p q r = order-append xs ys 
 abbrev Alike : Need → Need → Type 0
 Alike a b = (is_import a.kind ≡ is_import b.kind) × (a.name ≡ b.name)
 
-needs-few : (xs ys : List Need) → GoodNeeds true xs → GoodNeeds false ys → length xs + length ys ≤ 16 → FewNeeds (xs ++ ys) × All WritableNeed (xs ++ ys)
+needs-few : (xs ys : List Need) → GoodNeeds true xs → GoodNeeds false ys → length xs + length ys ≤ 16 → FewNeeds (xs ++ ys) × AllByRecursion WritableNeed (xs ++ ys)
 needs-few xs ys g h most = (
   record {
     most = omega (arith, length-append xs ys);

@@ -1,6 +1,6 @@
 -- What holds of reading and writing, as statements.
-use Rattle.std.specs.Prelude.{◌≡◌, ℕ, suc, ◌<◌, ◌≤◌, Bool, true, false, ◌||◌, ◌⊎◌, List, [], ◌∷◌, map, length, is_some, Some, None, Ok, Err, Option, Result, MatchOption}
-use Rattle.std.specs.List.{AllByRecursion as All, slice_get}
+use Rattle.std.specs.Prelude.{◌≡◌, ℕ, suc, ◌<◌, ◌≤◌, true, ◌⊎◌, List, [], map, length, Some, Ok, Err}
+use Rattle.std.specs.List.{AllByRecursion, slice_get}
 use Rattle.kinds.specs.declared.controller.ControllerNumber.{ControllerNumber}
 use Rattle.kinds.specs.declared.range.Range.{Range}
 use Rattle.kinds.specs.declared.range.Range.TheVariants.{AtLeast, Between}
@@ -29,7 +29,7 @@ WritableRange P (AtLeast floor) = P floor
 WritableRange P (Between floor ceiling) = P floor.value × P ceiling.value
 
 abbrev pub WritableExport : Export → Type 0
-WritableExport e = WritableName e.name × WritableVersion e.version × All WritableName e.uses
+WritableExport e = WritableName e.name × WritableVersion e.version × AllByRecursion WritableName e.uses
 
 abbrev pub WritableNeed : Need → Type 0
 WritableNeed n = WritableName n.name × WritableRange WritableVersion n.range
@@ -40,8 +40,8 @@ pub record Writable (b : Bundle) : Type 0 where
   pub name : WritableName b.name
   pub version : WritableVersion b.version
   pub controllers : WritableRange WritableController b.controllers
-  pub exports : All WritableExport b.exports
-  pub needs : All WritableNeed b.needs
+  pub exports : AllByRecursion WritableExport b.exports
+  pub needs : AllByRecursion WritableNeed b.needs
 
 -- no two bundles have the same name and version
 abbrev pub Distinct : List Bundle → Type 0
@@ -50,7 +50,7 @@ Distinct bs = (i j : ℕ) (a b : Bundle) → slice_get bs i ≡ Some a → slice
 -- what a directory can say
 pub record Lawful (bs : List Bundle) : Type 0 where
   pub most : length bs ≤ 64
-  pub each : All Writable bs
+  pub each : AllByRecursion Writable bs
   pub distinct : Distinct bs
 
 -- whatever is lawful, where its text is short enough, is read from that text
@@ -69,7 +69,7 @@ LawfulFormed = (bs : List Bundle) → Lawful bs → WellFormed (map Some bs)
 pub record WrittenAs (g : Grammar) (value : List ℕ) (cs : List RawClause) : Type 0 where
   pub clauses : List Clause
   pub some : clauses ≡ [] → ⊥
-  pub lawful : All (LawfulClause g) clauses
+  pub lawful : AllByRecursion (LawfulClause g) clauses
   pub text : value ≡ clauses_text g clauses
   pub meaning : each says clauses ≡ Some cs
 

@@ -1,7 +1,7 @@
 -- What a directory says keeps the limits of a shelf, and no name in it is empty. A proof: a reader need not believe it.
 use Rattle.std.specs.Prelude.{◌≡◌, ℕ, zero, suc, ◌<◌, ◌≤◌, true, List, [], ◌∷◌, map, length, IfSome, Some, Ok, refl}
 use Rattle.std.proofs.Common.{arith, sym, ap, subst}
-use Rattle.std.specs.List.{AllByRecursion as All}
+use Rattle.std.specs.List.{AllByRecursion}
 use Rattle.std.proofs.ByRecursion.{All-weaker}
 use Rattle.shelf.specs.Meaning.{Name, Bundle, bundle_at, FewItems, WellFormed}
 use Rattle.manifest.specs.Names.{is_name}
@@ -13,7 +13,7 @@ length-all : (bs : List Bundle) → length (map Some bs) ≡ length bs
 length-all [] = refl
 length-all (b ∷ bs) = ap suc (length-all bs)
 
-each-few : (bs : List Bundle) → All Writable bs → (place : ℕ) → IfSome (bundle_at (map Some bs) place) FewItems
+each-few : (bs : List Bundle) → AllByRecursion Writable bs → (place : ℕ) → IfSome (bundle_at (map Some bs) place) FewItems
 each-few [] h place = tt
 each-few (b ∷ bs) h zero = h.0.few
 each-few (b ∷ bs) h (suc place) = each-few bs h.1 place
@@ -34,16 +34,16 @@ Filled n = 0 < length n
 
 pub record FilledBundle (b : Bundle) : Type 0 where
   pub name : Filled b.name
-  pub exports : All (λ e. Filled e.name × All Filled e.uses) b.exports
-  pub needs : All (λ n. Filled n.name) b.needs
+  pub exports : AllByRecursion (λ e. Filled e.name × AllByRecursion Filled e.uses) b.exports
+  pub needs : AllByRecursion (λ n. Filled n.name) b.needs
 
 pub writable_filled : (b : Bundle) → Writable b → FilledBundle b
 writable_filled b w =
     record {
       name = name_filled b.name w.name.0;
-      exports = All-weaker WritableExport (λ e. Filled e.name × All Filled e.uses) (λ e h. (name_filled e.name h.0.0, All-weaker WritableName Filled (λ n k. name_filled n k.0) e.uses h.2)) b.exports w.exports;
+      exports = All-weaker WritableExport (λ e. Filled e.name × AllByRecursion Filled e.uses) (λ e h. (name_filled e.name h.0.0, All-weaker WritableName Filled (λ n k. name_filled n k.0) e.uses h.2)) b.exports w.exports;
       needs = All-weaker WritableNeed (λ n. Filled n.name) (λ n h. name_filled n.name h.0.0) b.needs w.needs;
     }
 
-pub reads_filled : (text : List ℕ) (bs : List Bundle) → reading text ≡ Ok bs → All FilledBundle bs
+pub reads_filled : (text : List ℕ) (bs : List Bundle) → reading text ≡ Ok bs → AllByRecursion FilledBundle bs
 reads_filled text bs e = All-weaker Writable FilledBundle writable_filled bs (reads-lawful text bs e).each

@@ -1,5 +1,5 @@
 -- Questions asked one after the other: the first no is the answer, by its number.
-use Rattle.std.specs.Prelude.{ℕ, Bool, true, false, Some, None, Ok, Err, Option, Result}
+use Rattle.std.specs.Prelude.{ℕ, Bool, true, false, Some, None, Err, Option, Result}
 
 -- question n is answered by a test, and then the rest
 abbrev pub asks : {X : Type 0} → ℕ → Bool → Result X ℕ → Result X ℕ

@@ -1,12 +1,11 @@
 -- The values of the known headers: the questions 7 to 10, each of the whole value before the next.
 -- 7 the value follows the form; 8 every version, range and number in it reads; 9 the limits hold; 10 no name is twice.
-use Rattle.std.specs.Prelude.{ℕ, ◌+◌, Bool, true, ◌&&◌, List, [], map, length, Some, None, Ok, Err, Option, Result, nat_le}
+use Rattle.std.specs.Prelude.{ℕ, ◌+◌, Bool, ◌&&◌, List, [], map, length, Some, None, Ok, Option, Result, nat_le}
 use Rattle.std.specs.Option.{option_map, unwrap_or}
 use Rattle.text.specs.Bytes.{lacks}
 use Rattle.kinds.specs.declared.controller.ControllerNumber.{ControllerNumber}
 use Rattle.kinds.specs.declared.range.Range.{Range}
 use Rattle.kinds.specs.declared.version.Version.{Version}
-use Rattle.kinds.specs.Number.{number}
 use Rattle.kinds.specs.declared.range.Range.TheVariants.{AtLeast}
 use Rattle.kinds.specs.Controller.{controller, numbered}
 use Rattle.kinds.specs.RangeText.{range}

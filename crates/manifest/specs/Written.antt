@@ -1,5 +1,5 @@
 -- The text of bundles, one manifest each.
-use Rattle.std.specs.Prelude.{ℕ, Bool, true, false, cond, not, ◌&&◌, List, [], ◌∷◌, ◌++◌, map, is_some, Some, None, codes, decimal, filter, Option, ◌==◌}
+use Rattle.std.specs.Prelude.{ℕ, Bool, false, cond, not, List, [], ◌∷◌, ◌++◌, map, codes, decimal, filter, ◌==◌}
 use Rattle.kinds.specs.declared.controller.ControllerNumber.{ControllerNumber}
 use Rattle.kinds.specs.declared.range.Range.TheVariants.{AtLeast, Between}
 use Rattle.kinds.specs.declared.range.Range.{Range}

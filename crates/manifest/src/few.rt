@@ -1,5 +1,7 @@
 // At most N values, kept in place.
-ghost use Rattle.std.specs.Prelude.{◌≡◌, ◌≤◌, length};
+ghost use Rattle.std.specs.Prelude.{◌≡◌, ◌≤◌, length, ⊤};
+
+use std::alloc::AllocError;
 
 pub mod calls;
 
@@ -12,3 +14,13 @@ pub struct Few<T, const N: usize> {
 }
 
 impl<T: Copy, const N: usize> Copy for Few<T, N> {}
+
+impl<T: Copy, const N: usize> Clone for Few<T, N> {
+    ghost is_clone = { λ a b. b ≡ a };
+
+    ghost is_infallible = { λ _. ⊤ };
+
+    fn clone(&self) -> Result<Few<T, N>, AllocError> {
+        Ok(*self)
+    }
+}

@@ -1,5 +1,5 @@
 -- Whatever a line is answered is true.
-use Rattle.std.proofs.Common.{◌≡◌, ℕ, Bool, true, false, cond, List, [], ◌∷◌, ◌++◌, Some, None, codes, Decides, Option, sym, refl, ap, ◌∙◌, inl, inr}
+use Rattle.std.proofs.Common.{◌≡◌, ℕ, Bool, true, false, cond, List, [], ◌∷◌, ◌++◌, Some, None, codes, Option, sym, refl, ap, ◌∙◌, inl, inr}
 use Rattle.std.proofs.lemmas.Bool.Decides.{not_from_Decides}
 use Rattle.text.specs.Bytes.{equal}
 use Rattle.text.specs.Splitting.{parts, rejoined}
@@ -8,13 +8,13 @@ use Rattle.text.proofs.Splits.{split-rejoined}
 use Rattle.kinds.specs.declared.range.Range.{Range}
 use Rattle.kinds.specs.Controller.{before, controller}
 use Rattle.kinds.specs.Order.{Trichotomy}
-use Rattle.kinds.specs.Range.{Holds, holding}
+use Rattle.kinds.specs.Range.{holding}
 use Rattle.kinds.specs.RangeText.{range}
 use Rattle.kinds.specs.Version.{lower, version}
 use Rattle.kinds.proofs.Ranges.{sound}
 use Rattle.kinds.proofs.Tables.{holding-decides, version_either, controller_either}
 use Rattle.query.specs.declared.answer.Part.TheVariants as part
-use Rattle.query.specs.Answers.{Said, holds, leaves_out, unread, judged, judged_as, asked, worded, answer_to}
+use Rattle.query.specs.Answers.{holds, leaves_out, unread, judged, judged_as, worded}
 use Rattle.query.specs.Truth.{Told, Claims, True, Truthful}
 
 -- what a judgement claims of the two texts, whatever follows from that

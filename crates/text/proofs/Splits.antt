@@ -1,6 +1,6 @@
 -- The pieces of a text: cut off one by one, put together again, without their separator.
 use Rattle.std.proofs.Common.{◌≡◌, ℕ, suc, ◌+◌, ◌-◌, ◌<◌, ◌≤◌, Bool, true, false, cond, not, ◌&&◌, eqb, List, [], ◌∷◌, length, take, drop, refl, ap, arith}
-use Rattle.std.specs.List.{AllByRecursion as All}
+use Rattle.std.specs.List.{AllByRecursion}
 use Rattle.std.proofs.lemmas.List.{take_rest}
 use Rattle.std.proofs.lemmas.Bool.{eqb-true}
 use Rattle.text.specs.Bytes.{lacks}
@@ -82,7 +82,7 @@ split-rejoined quotes sep inside (x ∷ xs) = rejoin_step quotes sep x xs (eqb x
 
 -- where quotes do not count, no piece has the separator in it
 abbrev Apart : ℕ → List (List ℕ) → Type 0
-Apart sep ps = All (λ p. lacks sep p ≡ true) ps
+Apart sep ps = AllByRecursion (λ p. lacks sep p ≡ true) ps
 
 on_first-apart : (sep x : ℕ) (ps : List (List ℕ)) → eqb x sep ≡ false → Apart sep ps → Apart sep (on_first x ps)
 on_first-apart sep x [] e h = tt
@@ -103,9 +103,9 @@ Whole quotes sep inside p = reach quotes sep inside p ≡ length p
 
 abbrev Wholes : Bool → ℕ → Bool → List (List ℕ) → Type 0
 Wholes quotes sep inside [] = Unit {0}
-Wholes quotes sep inside (p ∷ ps) = Whole quotes sep inside p × All (Whole quotes sep false) ps
+Wholes quotes sep inside (p ∷ ps) = Whole quotes sep inside p × AllByRecursion (Whole quotes sep false) ps
 
-wholes_all : (quotes : Bool) (sep : ℕ) (ps : List (List ℕ)) → Wholes quotes sep false ps → All (Whole quotes sep false) ps
+wholes_all : (quotes : Bool) (sep : ℕ) (ps : List (List ℕ)) → Wholes quotes sep false ps → AllByRecursion (Whole quotes sep false) ps
 wholes_all quotes sep [] h = tt
 wholes_all quotes sep (p ∷ ps) h = (h.0, h.1)
 
@@ -125,5 +125,5 @@ split-whole : (quotes : Bool) (sep : ℕ) (inside : Bool) (xs : List ℕ) → Wh
 split-whole quotes sep inside [] = (refl, tt)
 split-whole quotes sep inside (x ∷ xs) = whole-step quotes sep inside x xs (eqb x sep && not inside) refl (λ now. split-whole quotes sep now xs)
 
-pub split-apart : (quotes : Bool) (sep : ℕ) (xs : List ℕ) → All (λ p. reach quotes sep false p ≡ length p) (split quotes sep false xs)
+pub split-apart : (quotes : Bool) (sep : ℕ) (xs : List ℕ) → AllByRecursion (λ p. reach quotes sep false p ≡ length p) (split quotes sep false xs)
 split-apart quotes sep xs = wholes_all quotes sep (split quotes sep false xs) (split-whole quotes sep false xs)

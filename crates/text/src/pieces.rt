@@ -1,6 +1,6 @@
 // The pieces of a text between separators, one after the other.
 ghost use Rattle.std.specs.Prelude.{◌≡◌, ◌≤◌, Bool, true, false, [], ◌∷◌, length, MatchOption};
-ghost use Rattle.std.specs.List.{AllByRecursion as All};
+ghost use Rattle.std.specs.List.{AllByRecursion};
 ghost use Rattle.text.specs.Bytes.{lacks};
 ghost use Rattle.text.specs.Left.{left, left_of};
 ghost use Rattle.text.specs.Splitting.{parts, reach, rejoined, split};
@@ -18,7 +18,7 @@ impl<'a> Pieces<'a> {
     pub fn plain(text: &'a [u8], separator: u8) -> Pieces<'a>
         ensures pieces { left result ≡ parts separator text.now }
         ensures whole { rejoined separator (left result) ≡ text.now }
-        ensures apart { All (λ piece. lacks separator piece ≡ true) (left result) }
+        ensures apart { AllByRecursion (λ piece. lacks separator piece ≡ true) (left result) }
     {
         Pieces {
             rest: Some(text),
@@ -31,7 +31,7 @@ impl<'a> Pieces<'a> {
     pub fn outside_quotes(text: &'a [u8], separator: u8) -> Pieces<'a>
         ensures pieces { left result ≡ split true separator false text.now }
         ensures whole { rejoined separator (left result) ≡ text.now }
-        ensures apart { All (λ piece. reach true separator false piece ≡ length piece) (left result) }
+        ensures apart { AllByRecursion (λ piece. reach true separator false piece ≡ length piece) (left result) }
     {
         Pieces {
             rest: Some(text),

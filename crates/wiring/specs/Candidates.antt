@@ -59,8 +59,8 @@ abbrev pub need_own : Meaning → ℕ → Option Need → Bool
 need_own m b None = false
 need_own m b (Some n) = own m b n
 
-abbrev pub field_own : Meaning → ℕ → ℕ → Bool
-field_own m b k = need_own m b (need_at m b k)
+abbrev pub own_at : Meaning → ℕ → ℕ → Bool
+own_at m b k = need_own m b (need_at m b k)
 
 abbrev pub offered_at : Meaning → ControllerNumber → ℕ → ℕ → ℕ → Option Version
 offered_at m controller b k c = bound (need_at m b k) (λ n. offered m controller b n c)

@@ -1,4 +1,4 @@
-use Rattle.std.proofs.Common.{ltb, sym, ap, ◌∙◌, arith, rules}
+use Rattle.std.proofs.Common.{◌≡◌, ℕ, ◌&&◌, ltb, sym, ap, subst, ◌∙◌, arith}
 use Rattle.std.proofs.lemmas.Bool.{and_right, le-ltb}
 use Rattle.places.specs.Sets.{has}
 use Rattle.wiring.specs.Candidates.{candidate_at}
@@ -30,9 +30,11 @@ returns g c =
     let shelf = c.args.shelf.now in
     let m = g.S.Shelf.meaning shelf in
     let a = c.args in
+    let P : ℕ → Type 0 = λ n. (p : ℕ) → has c.loop-c.found p ≡ (candidate_at m a.controller a.b a.k p && ltb p n) in
+    let done : c.loop-c.c ≡ 64 = omega arith in
     gathered (candidate_at m a.controller a.b a.k) (has c.loop-c.found) 64
-    (λ i le. candidate_past m a.controller a.b a.k i (g.S.Shelf.formed shelf) le) (search rules)
+    (λ i le. candidate_past m a.controller a.b a.k i (g.S.Shelf.formed shelf) le) (subst P done c.loop-c.invariant)
 
-pub returns-then-is-empty : goal.returns-then-is-empty
-returns-then-is-empty g c =
-    none-among (has c.args.among) (candidate_at (g.S.Shelf.meaning c.args.shelf.now) c.args.controller c.args.b c.args.k) c.requires (c.is-empty.ensures.0 c.if-is-empty.true)
+pub returns-then-is_empty : goal.returns-then-is_empty
+returns-then-is_empty g c =
+    none-among (has c.args.among) (candidate_at (g.S.Shelf.meaning c.args.shelf.now) c.args.controller c.args.b c.args.k) c.requires (c.is_empty.ensures.0 c.if-is_empty.true)

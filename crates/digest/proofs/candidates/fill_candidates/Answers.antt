@@ -4,8 +4,8 @@ use Rattle.wiring.specs.Candidates.{candidate_at}
 use Rattle.digest.proofs.Cells.{cell_more}
 use Rattle.digest.proofs.candidates.fill_candidates.Goals as goal
 
-pub candidates-among-requires : goal.candidates-among-requires
-candidates-among-requires g c =
+pub candidates_among-requires : goal.candidates_among-requires
+candidates_among-requires g c =
     let shelf = c.args.shelf.now in
     let i = c.loop-i.i in
     let given = c.requires.1.1 in
@@ -15,7 +15,7 @@ pub loop-i-preserved : goal.loop-i-preserved
 loop-i-preserved g c =
     let m = g.S.Shelf.meaning c.args.shelf.now in
     cell_more (λ i s. (p : ℕ) → has s p ≡ candidate_at m c.args.controller (i / 16) (i % 16) p)
-    c.loop-i.i c.loop-i.candidates c.candidates-among.result (omega arith) c.loop-i.invariant c.candidates-among.ensures
+    c.loop-i.i c.loop-i.candidates c.candidates_among.result (omega arith) c.loop-i.invariant c.candidates_among.ensures
 
 pub returns : goal.returns
 returns g c = λ i z h p. c.loop-i.invariant i z (omega arith) p

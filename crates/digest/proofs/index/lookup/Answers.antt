@@ -14,12 +14,12 @@ loop-at-smaller g c =
 pub loop-at-preserved : goal.loop-at-preserved
 loop-at-preserved g c =
     seek_more (g.S.Shelf.meaning c.args.shelf.now) c.args.bound c.args.name.now c.args.index.now.first c.args.index.now.next c.requires.0
-    c.loop-at.at c.loop-at.invariant (omega arith) (λ n. both_ways _ c.if-is-of.false (c.is_of.ensures.1 n))
+    c.loop-at.at c.loop-at.invariant (omega arith) (λ n. both_ways _ c.if-is_of.false (c.is_of.ensures.1 n))
 
-pub returns-then-is-of : goal.returns-then-is-of
-returns-then-is-of g c =
+pub returns-then-is_of : goal.returns-then-is_of
+returns-then-is_of g c =
     let b = c.loop-at.invariant.within in (
       omega arith,
       seek_found (g.S.Shelf.meaning c.args.shelf.now) c.args.bound c.args.name.now c.args.index.now.first c.args.index.now.next c.requires.0
-          c.loop-at.at c.loop-at.invariant (omega arith) (c.is_of.ensures.0 c.if-is-of.true),
+          c.loop-at.at c.loop-at.invariant (omega arith) (c.is_of.ensures.0 c.if-is_of.true),
     )

@@ -7,6 +7,6 @@ use Rattle.digest.proofs.number.number_exports.Goals as goal
 pub loop-n-preserved : goal.loop-n-preserved
 loop-n-preserved g c =
     let m = g.S.Shelf.meaning c.args.shelf.now in (
-      number_more (λ i n. Says m (package_at m (i / 16) (i % 16)) n) c.loop-n.n c.loop-n.exported c.number-export.result (omega arith) c.loop-n.invariant.0 c.number-export.ensures.number,
-      c.number-export.ensures.index,
+      number_more (λ i n. Says m (package_at m (i / 16) (i % 16)) n) c.loop-n.n c.loop-n.exported c.number_export.result (omega arith) c.loop-n.invariant.0 c.number_export.ensures.number,
+      c.number_export.ensures.index,
     )

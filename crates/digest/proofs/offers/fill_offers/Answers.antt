@@ -7,7 +7,7 @@ pub loop-i-preserved : goal.loop-i-preserved
 loop-i-preserved g c =
     let m = g.S.Shelf.meaning c.args.shelf.now in
     cell_more (λ i v. (x : Offer) → offer_at m (i / 16) (i % 16) ≡ Some x → v ≡ x.version)
-    c.loop-i.i c.loop-i.offers c.export-version.result (omega arith) c.loop-i.invariant c.export-version.ensures
+    c.loop-i.i c.loop-i.offers c.export_version.result (omega arith) c.loop-i.invariant c.export_version.ensures
 
 pub returns : goal.returns
 returns g c = λ i z h x e. c.loop-i.invariant i z (omega arith) x e

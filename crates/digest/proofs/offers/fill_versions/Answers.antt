@@ -8,7 +8,7 @@ pub loop-place-preserved : goal.loop-place-preserved
 loop-place-preserved g c =
     let m = g.S.Shelf.meaning c.args.shelf.now in
     cell_more (λ i v. (x : Version) → version_at m i ≡ Some x → v ≡ x)
-    c.loop-place.place c.loop-place.versions c.bundle-version.result (omega arith) c.loop-place.invariant c.bundle-version.ensures
+    c.loop-place.place c.loop-place.versions c.bundle_version.result (omega arith) c.loop-place.invariant c.bundle_version.ensures
 
 pub returns : goal.returns
 returns g c = λ i z h v e. c.loop-place.invariant i z (omega arith) v e

@@ -7,4 +7,4 @@ use Rattle.digest.proofs.uses.fill_uses.Goals as goal
 pub loop-i-preserved : goal.loop-i-preserved
 loop-i-preserved g c =
     let m = g.S.Shelf.meaning c.args.shelf.now in
-    number_more (λ i n. Says m (used_at m (i / 8 / 16) (i / 8 % 16) (i % 8)) n) c.loop-i.i c.loop-i.used c.number-use.result (omega arith) c.loop-i.invariant c.number-use.ensures
+    number_more (λ i n. Says m (used_at m (i / 8 / 16) (i / 8 % 16) (i % 8)) n) c.loop-i.i c.loop-i.used c.number_use.result (omega arith) c.loop-i.invariant c.number_use.ensures

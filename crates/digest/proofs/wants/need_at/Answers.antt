@@ -8,7 +8,7 @@ pub returns-in-Import : goal.returns-in-Import
 returns-in-Import g c =
     let shelf = c.args.shelf.now in
     wants-import (g.S.Shelf.meaning shelf) (g.S.Shelf.formed shelf) _ _ (need_of c.in-Some.need) c.args.exporters.now _ _ _
-    c.in-Some.ensures c.in-Import.is c.requires.1.1.0 c.number-imports.ensures c.is-optional-optional.ensures c.is-exporter.ensures (record { 0 = 0 })
+    c.in-Some.ensures c.in-Import.is c.requires.1.1.0 c.number-imports.ensures c.is_optional-optional.ensures c.is_exporter.ensures (record { 0 = 0 })
 
 pub returns-in_default : goal.returns-in_default
 returns-in_default g c =

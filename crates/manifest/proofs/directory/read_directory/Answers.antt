@@ -17,12 +17,12 @@ pub returns-then-len-eq0 : goal.returns-then-len-eq0
 returns-then-len-eq0 c =
     ap (λ b. Ok (map (bundle_in c.args.text.now) b)) c.new.ensures ∙ no_text c.args.text.now (omega arith) c.in_default.ensures (omega arith)
 
-pub returns-then-not-is-closed : goal.returns-then-not-is-closed
-returns-then-not-is-closed c = open_text c.args.text.now (omega arith) c.in_default.ensures (λ z. omega arith) c.if-not-is-closed.ensures
+pub returns-then-not-is_closed : goal.returns-then-not-is_closed
+returns-then-not-is_closed c = open_text c.args.text.now (omega arith) c.in_default.ensures (λ z. omega arith) c.if-not-is_closed.ensures
 
 pub returns : goal.returns
 unfolding span_of
 returns c =
     let t = c.args.text.now in
-    c.read-lines.ensures ∙ ap (λ z. walk 0 start (parts 10 z)) (here t 0 (length t - 1) (omega arith))
-    ∙ closed-text t (omega arith) c.in_default.ensures (λ z. omega arith) c.if-not-is-closed.ensures
+    c.read_lines.ensures ∙ ap (λ z. walk 0 start (parts 10 z)) (here t 0 (length t - 1) (omega arith))
+    ∙ closed-text t (omega arith) c.in_default.ensures (λ z. omega arith) c.if-not-is_closed.ensures

@@ -6,9 +6,9 @@ use Rattle.manifest.specs.Stages.{gather, name_piece}
 use Rattle.manifest.proofs.Entries.{name_turn, names_done}
 use Rattle.manifest.proofs.items.names.Goals as goal
 
-pub loop-name-preserved-then-is-short : goal.loop-name-preserved-then-is-short
-loop-name-preserved-then-is-short c =
-    name_turn c.args.text.now c.loop-name.all c.add.new.self c.in-Some.name _ _ _ _ c.in-Some.ensures c.bytes.ensures c.loop-name.invariant c.if-is-short.ensures c.add.ensures
+pub loop-name-preserved-then-is_short : goal.loop-name-preserved-then-is_short
+loop-name-preserved-then-is_short c =
+    name_turn c.args.text.now c.loop-name.all c.add.new.self c.in-Some.name _ _ _ _ c.in-Some.ensures c.bytes.ensures c.loop-name.invariant c.if-is_short.ensures c.add.ensures
 
 pub returns : goal.returns
 returns c =

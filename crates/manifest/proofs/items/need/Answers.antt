@@ -7,9 +7,9 @@ returns-in_err-c c = rw c.from_residual.ensures (no_need_clause _ _ c.in_err-c.e
 pub returns-in_err-range : goal.returns-in_err-range
 returns-in_err-range c = rw c.from_residual-in_err-range.ensures (no_range _ _ _ c.in_ok-c.ensures c.in_err-range.ensures)
 
-pub returns-then-not-is-short : goal.returns-then-not-is-short
-returns-then-not-is-short c = long_need _ _ _ c.in_ok-c.ensures _ _ c.in_ok-range.ensures c.bytes.ensures c.if-not-is-short.ensures
+pub returns-then-not-is_short : goal.returns-then-not-is_short
+returns-then-not-is_short c = long_need _ _ _ c.in_ok-c.ensures _ _ c.in_ok-range.ensures c.bytes.ensures c.if-not-is_short.ensures
 
 pub returns : goal.returns
 returns c =
-    small_need _ _ _ c.in_ok-c.ensures _ _ _ _ c.in_ok-range.ensures c.bytes.ensures c.if-not-is-short.ensures c.kind-of.ensures c.resolution-or.ensures
+    small_need _ _ _ c.in_ok-c.ensures _ _ _ _ c.in_ok-range.ensures c.bytes.ensures c.if-not-is_short.ensures c.kind_of.ensures c.resolution_or.ensures

@@ -3,9 +3,9 @@ use Rattle.manifest.specs.Spans.{span_of}
 use Rattle.manifest.proofs.Spans.{as_cut, there}
 use Rattle.manifest.proofs.span.inside.Goals as goal
 
-pub slice-bounds-result-end : goal.slice-bounds-result-end
+pub slice_bounds-result-end : goal.slice_bounds-result-end
 unfolding span_of
-slice-bounds-result-end c = let w = there c.args.text.now c.args.s.start c.args.s.len c.requires in search rules
+slice_bounds-result-end c = let w = there c.args.text.now c.args.s.start c.args.s.len c.requires in search rules
 
 pub returns : goal.returns
 unfolding span_of

@@ -7,17 +7,17 @@ pub returns-then-len-eq0 : goal.returns-then-len-eq0
 unfolding span_of
 returns-then-len-eq0 c = no_part c.args.text.now c.args.len _ (omega arith)
 
-pub overflow-cast-result : goal.overflow-cast-result
+pub overflow_cast-result : goal.overflow_cast-result
 unfolding span_of
-overflow-cast-result c = let w = there c.args.text.now c.args.s.start c.args.s.len (omega arith) in search rules
+overflow_cast-result c = let w = there c.args.text.now c.args.s.start c.args.s.len (omega arith) in search rules
 
-pub overflow-add-result : goal.overflow-add-result
+pub overflow_add-result : goal.overflow_add-result
 unfolding span_of
-overflow-add-result c = let w = there c.args.text.now c.args.s.start c.args.s.len (omega arith) in search rules
+overflow_add-result c = let w = there c.args.text.now c.args.s.start c.args.s.len (omega arith) in search rules
 
-pub overflow-cast-result-2 : goal.overflow-cast-result-2
+pub overflow_cast-result-2 : goal.overflow_cast-result-2
 unfolding span_of
-overflow-cast-result-2 c = let w = there c.args.text.now c.args.s.start c.args.s.len (omega arith) in search rules
+overflow_cast-result-2 c = let w = there c.args.text.now c.args.s.start c.args.s.len (omega arith) in search rules
 
 pub returns : goal.returns
 unfolding span_of

@@ -5,13 +5,13 @@ use Rattle.manifest.specs.Spans.{span_of}
 use Rattle.manifest.proofs.Looks.{twice_step, seen_all}
 use Rattle.manifest.proofs.twice.has_twice.Goals as goal
 
-pub returns-then-is-among : goal.returns-then-is-among
-returns-then-is-among g c =
-    ap not (twice_step g.T.Named.called c.args.text.now (held c.args.items.now) c.loop-i.i _ _ _ c.at.ensures c.name.ensures c.bytes.ensures true _ c.if-is-among.ensures c.loop-i.invariant)
+pub returns-then-is_among : goal.returns-then-is_among
+returns-then-is_among g c =
+    ap not (twice_step g.T.Named.called c.args.text.now (held c.args.items.now) c.loop-i.i _ _ _ c.at.ensures c.name.ensures c.bytes.ensures true _ c.if-is_among.ensures c.loop-i.invariant)
 
 pub loop-i-preserved : goal.loop-i-preserved
 loop-i-preserved g c =
-    twice_step g.T.Named.called c.args.text.now (held c.args.items.now) c.loop-i.i _ _ _ c.at.ensures c.name.ensures c.bytes.ensures false _ c.if-is-among.ensures c.loop-i.invariant
+    twice_step g.T.Named.called c.args.text.now (held c.args.items.now) c.loop-i.i _ _ _ c.at.ensures c.name.ensures c.bytes.ensures false _ c.if-is_among.ensures c.loop-i.invariant
 
 pub returns : goal.returns
 returns g c =

@@ -5,13 +5,13 @@ use Rattle.manifest.specs.Spans.{span_of}
 use Rattle.manifest.proofs.Looks.{among-step, seen_all}
 use Rattle.manifest.proofs.twice.is_among.Goals as goal
 
-pub returns-then-same-text : goal.returns-then-same-text
-returns-then-same-text g c =
-    among-step g.T.Named.called c.args.text.now (held c.args.items.now) c.loop-i.i _ _ _ c.at.ensures c.name.ensures c.bytes.ensures c.args.name.now true _ c.if-same-text.ensures.value c.loop-i.invariant
+pub returns-then-same_text : goal.returns-then-same_text
+returns-then-same_text g c =
+    among-step g.T.Named.called c.args.text.now (held c.args.items.now) c.loop-i.i _ _ _ c.at.ensures c.name.ensures c.bytes.ensures c.args.name.now true _ c.if-same_text.ensures.value c.loop-i.invariant
 
 pub loop-i-preserved : goal.loop-i-preserved
 loop-i-preserved g c =
-    among-step g.T.Named.called c.args.text.now (held c.args.items.now) c.loop-i.i _ _ _ c.at.ensures c.name.ensures c.bytes.ensures c.args.name.now false _ c.if-same-text.ensures.value c.loop-i.invariant
+    among-step g.T.Named.called c.args.text.now (held c.args.items.now) c.loop-i.i _ _ _ c.at.ensures c.name.ensures c.bytes.ensures c.args.name.now false _ c.if-same_text.ensures.value c.loop-i.invariant
 
 pub returns : goal.returns
 returns g c =

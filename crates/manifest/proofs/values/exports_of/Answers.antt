@@ -7,21 +7,21 @@ use Rattle.manifest.proofs.Judges.{export_named, exports-judged, is_once, is_twi
 use Rattle.manifest.proofs.values.exports_of.Goals as goal
 
 pub returns-in_default : goal.returns-in_default
-returns-in_default c = exports-judged (span_of c.args.text.now c.args.value) None c.if-not-follows-form.ensures c.in_default.ensures
+returns-in_default c = exports-judged (span_of c.args.text.now c.args.value) None c.if-not-follows_form.ensures c.in_default.ensures
 
 pub returns-then-all : goal.returns-then-all
 returns-then-all c =
-    exports-judged (span_of c.args.text.now c.args.value) (Some None) c.if-not-follows-form.ensures
+    exports-judged (span_of c.args.text.now c.args.value) (Some None) c.if-not-follows_form.ensures
     (ap Some (over_none (export_in c.args.text.now) c.in-Some.all c.if-all.true) ∙ c.in-Some.ensures)
 
-pub returns-then-has-twice : goal.returns-then-has-twice
-returns-then-has-twice c =
+pub returns-then-has_twice : goal.returns-then-has_twice
+returns-then-has_twice c =
     let view = export_in c.args.text.now in
-    is_twice view export_named (held c.in-Some.all.items) c.if-has-twice.ensures
-    ∙ exports-judged (span_of c.args.text.now c.args.value) _ c.if-not-follows-form.ensures (ap Some (all_got view c.in-Some.all c.if-all.false) ∙ c.in-Some.ensures)
+    is_twice view export_named (held c.in-Some.all.items) c.if-has_twice.ensures
+    ∙ exports-judged (span_of c.args.text.now c.args.value) _ c.if-not-follows_form.ensures (ap Some (all_got view c.in-Some.all c.if-all.false) ∙ c.in-Some.ensures)
 
 pub returns : goal.returns
 returns c =
     let view = export_in c.args.text.now in
-    is_once view export_named (held c.in-Some.all.items) c.if-has-twice.ensures
-    ∙ exports-judged (span_of c.args.text.now c.args.value) _ c.if-not-follows-form.ensures (ap Some (all_got view c.in-Some.all c.if-all.false) ∙ c.in-Some.ensures)
+    is_once view export_named (held c.in-Some.all.items) c.if-has_twice.ensures
+    ∙ exports-judged (span_of c.args.text.now c.args.value) _ c.if-not-follows_form.ensures (ap Some (all_got view c.in-Some.all c.if-all.false) ∙ c.in-Some.ensures)

@@ -9,7 +9,7 @@ returns g c =
     let shelf = c.args.shelf.now in
     let m = g.S.Shelf.meaning shelf in
     let a = c.args in
-    let value : c.is-some.result ≡ candidate_at m a.controller a.b a.k a.c = search rules in
+    let value : c.is_some.result ≡ candidate_at m a.controller a.b a.k a.c = search rules in
     record {
       value = value;
       rule = Decides-at _ _ value (candidate-decides m a.controller a.b a.k a.c (g.S.Shelf.formed shelf));

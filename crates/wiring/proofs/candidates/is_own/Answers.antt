@@ -9,6 +9,6 @@ returns g c =
     let place = c.args.place in
     let k = c.args.k in
     record {
-      value = same_from_decides c.is-own-import.result (own_at m place k) c.is-own-import.ensures (own-decides m place k);
-      rule = c.is-own-import.ensures;
+      value = same_from_decides c.is_own_import.result (own_at m place k) c.is_own_import.ensures (own-decides m place k);
+      rule = c.is_own_import.ensures;
     }

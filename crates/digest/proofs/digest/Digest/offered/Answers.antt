@@ -16,7 +16,7 @@ returns-in-Import c = λ m controller d.
     let a = c.args in
     let served : candidate_at m controller a.b a.k a.c ≡ true = sym (c.candidates.ensures m controller d a.c) ∙ sym c.contains.ensures.value ∙ c.if-not-contains.false in
     let (q, f, x, is) = served_import m d.formed controller a.b a.c (need_at m a.b a.k) c.want-want.result (c.want-want.ensures m controller d) c.in-Import.is served in
-    c.version-of.ensures m controller q d f ∙ sym is
+    c.version_of.ensures m controller q d f ∙ sym is
 
 pub returns-in-Require : goal.returns-in-Require
 returns-in-Require c = λ m controller d.

@@ -4,35 +4,35 @@ use Rattle.places.specs.Sets.{has}
 use Rattle.digest.proofs.Cells.{exporting}
 use Rattle.digest.proofs.digest.making.digest.Goals as goal
 
-pub number-exports-requires : goal.number-exports-requires
-number-exports-requires g c = (refl, c.new-index.ensures (g.S.Shelf.meaning c.args.shelf.now))
+pub number_exports-requires : goal.number_exports-requires
+number_exports-requires g c = (refl, c.new-index.ensures (g.S.Shelf.meaning c.args.shelf.now))
 
 pub gather-requires : goal.gather-requires
 gather-requires g c = (omega arith, (refl, λ n x z h. ap (λ s. has s x) (get_or-replicate 1024 n c.empty-exporters.result z h) ∙ c.empty-exporters.ensures x))
 
-pub fill-wants-requires : goal.fill-wants-requires
-fill-wants-requires g c =
+pub fill_wants-requires : goal.fill_wants-requires
+fill_wants-requires g c =
     let shelf = c.args.shelf.now in (
       refl,
       (
         omega arith,
         (
-          exporting (g.S.Shelf.meaning shelf) (g.S.Shelf.formed shelf) c.number-exports.new.exported c.number-exports.ensures.numbers c.gather.new.exporters c.gather.ensures,
-          c.number-exports.ensures.index,
+          exporting (g.S.Shelf.meaning shelf) (g.S.Shelf.formed shelf) c.number_exports.new.exported c.number_exports.ensures.numbers c.gather.new.exporters c.gather.ensures,
+          c.number_exports.ensures.index,
         ),
       ),
     )
 
-pub fill-candidates-requires : goal.fill-candidates-requires
-fill-candidates-requires g c =
+pub fill_candidates-requires : goal.fill_candidates-requires
+fill_candidates-requires g c =
     let shelf = c.args.shelf.now in (
       refl,
       (
         (omega arith, omega arith),
         (
-          c.fill-wants.ensures,
+          c.fill_wants.ensures,
           (
-            exporting (g.S.Shelf.meaning shelf) (g.S.Shelf.formed shelf) c.number-exports.new.exported c.number-exports.ensures.numbers c.gather.new.exporters c.gather.ensures,
+            exporting (g.S.Shelf.meaning shelf) (g.S.Shelf.formed shelf) c.number_exports.new.exported c.number_exports.ensures.numbers c.gather.new.exporters c.gather.ensures,
             c.fitting-fit.ensures,
           ),
         ),
@@ -44,12 +44,12 @@ returns g c =
     let shelf = c.args.shelf.now in
     record {
       formed = g.S.Shelf.formed shelf;
-      exported = c.number-exports.ensures.numbers;
-      exporters = exporting (g.S.Shelf.meaning shelf) (g.S.Shelf.formed shelf) c.number-exports.new.exported c.number-exports.ensures.numbers c.gather.new.exporters c.gather.ensures;
-      used = c.fill-uses.ensures;
-      wants = c.fill-wants.ensures;
+      exported = c.number_exports.ensures.numbers;
+      exporters = exporting (g.S.Shelf.meaning shelf) (g.S.Shelf.formed shelf) c.number_exports.new.exported c.number_exports.ensures.numbers c.gather.new.exporters c.gather.ensures;
+      used = c.fill_uses.ensures;
+      wants = c.fill_wants.ensures;
       fitting = c.fitting-fit.ensures;
-      candidates = c.fill-candidates.ensures;
-      offers = c.fill-offers.ensures;
-      versions = c.fill-versions.ensures;
+      candidates = c.fill_candidates.ensures;
+      offers = c.fill_offers.ensures;
+      versions = c.fill_versions.ensures;
     }

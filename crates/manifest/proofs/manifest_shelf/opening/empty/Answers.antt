@@ -3,6 +3,6 @@ use Rattle.manifest.specs.Index.{bundle_in}
 use Rattle.manifest.specs.Reading.{reading}
 use Rattle.manifest.proofs.manifest_shelf.opening.empty.Goals as goal
 
-pub invariant-of-result : goal.invariant-of-result
+pub invariant_of-result : goal.invariant_of-result
 unfolding reading
-invariant-of-result c = (∣ ap (λ b. Ok (map (bundle_in []) b)) c.new.ensures ∣₁, tt)
+invariant_of-result c = record { lawful = ∣ ap (λ b. Ok (map (bundle_in []) b)) c.new.ensures ∣₁ }

@@ -14,11 +14,11 @@ returns-then-k-len c =
 pub returns : goal.returns
 returns c =
     let s = c.args.self.now in
-    let n = c.at_need.result.now in
+    let n = c.at-need.result.now in
     ap (λ x. Some (record { kind = n.kind; name = x; range = n.range; resolution = n.resolution })) c.inside.ensures
-    ∙ at_need s.text.now s.places c.args.place c.at-bundle.result.now c.at-bundle.ensures c.args.k (Some n) c.at_need.ensures
+    ∙ at_need s.text.now s.places c.args.place c.at-bundle.result.now c.at-bundle.ensures c.args.k (Some n) c.at-need.ensures
 
 pub inside-requires : goal.inside-requires
 inside-requires c =
     let s = c.args.self.now in
-    need_there s.text.now s.places s.lawful c.args.place c.at-bundle.result.now c.at-bundle.ensures c.args.k c.at_need.result.now c.at_need.ensures
+    need_there s.text.now s.places s.lawful c.args.place c.at-bundle.result.now c.at-bundle.ensures c.args.k c.at-need.result.now c.at-need.ensures
