@@ -1,5 +1,5 @@
 -- What the cell of a place and a column says.
-use Rattle.std.proofs.Common.{◌≡◌, ℕ, ◌+◌, ◌*◌, ◌/◌, ◌%◌, ◌<◌, ◌≤◌, false, ltb, ◌⊎◌, List, get_or, Some, None, Decides, Option, inl, inr, arith}
+use Rattle.std.proofs.Common.{◌≡◌, ℕ, ◌+◌, ◌*◌, ◌/◌, ◌%◌, ◌<◌, ◌≤◌, false, ◌⊎◌, List, get_or, Some, None, Decides, Option, inl, inr, arith}
 use Rattle.std.proofs.lemmas.Bool.{both_ways, cases_lt, lt-ltb, le-ltb}
 use Rattle.places.specs.Sets.{has}
 use Rattle.places.specs.declared.set.PlaceSet.{PlaceSet}

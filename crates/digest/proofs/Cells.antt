@@ -2,7 +2,6 @@
 use Rattle.std.proofs.Common.{◌≡◌, ℕ, ◌+◌, ◌*◌, ◌/◌, ◌%◌, ◌<◌, ◌≤◌, ◌⊎◌, List, length, get_or, set, Some, None, Option, refl, inl, inr, arith, below_more}
 use Rattle.std.proofs.lemmas.List.{get_or-set_same, get_or-set_other}
 use Rattle.std.proofs.lemmas.Bool.{cases_lt, cases_order}
-use Rattle.places.specs.Sets.{has}
 use Rattle.places.specs.declared.set.PlaceSet.{PlaceSet}
 use Rattle.shelf.specs.Looked.{Exports}
 use Rattle.shelf.specs.Meaning.{Name, Meaning, WellFormed}

@@ -19,7 +19,6 @@ use Rattle.wiring.proofs.Exported.{exports-decides}
 use Rattle.digest.specs.Cells.{Numbers}
 use Rattle.digest.specs.Needs.{role_of, Wants}
 use Rattle.digest.specs.Packages.{NumberOf}
-use Rattle.digest.specs.declared.want.Role.{Role}
 use Rattle.digest.specs.declared.want.Role.TheVariants as roles
 use Rattle.digest.specs.declared.want.Want.{Want}
 use Rattle.digest.proofs.Cells.{exported-small, number_of}

@@ -41,10 +41,12 @@ const PANEL: PlainBundle<'static> = PlainBundle {
     ..METER
 };
 
+const PLACES: &'static [Option<PlainBundle<'static>>] = &[Some(PANEL), None, Some(METER)];
+
 #[test]
 fn of_a_panel_and_a_meter(rt: HostRuntime) {
     let mut shelf = PlainShelf::empty();
-    assert!(rt; shelf.fill(&[Some(PANEL), None, Some(METER)]).is_ok());
+    assert!(rt; shelf.fill(PLACES).is_ok());
     let d = digest(&shelf, ControllerNumber(7));
     assert_eq!(rt; d.exported(2, 0), Some(32));
     assert_eq!(rt; d.imported(0, 0), d.used(2, 0, 0));

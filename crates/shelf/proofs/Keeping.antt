@@ -1,5 +1,5 @@
 -- The limits of plain values, item by item and put together.
-use Rattle.std.proofs.Common.{◌≡◌, ℕ, ◌<◌, ◌≤◌, Bool, true, List, [], map, length, get_or, IfSome, Some, None, Decides, Option, sym, ap, ◌∙◌, subst, arith}
+use Rattle.std.proofs.Common.{◌≡◌, ℕ, ◌<◌, ◌≤◌, Bool, List, [], map, length, get_or, IfSome, Some, None, Decides, Option, sym, ap, ◌∙◌, subst, arith}
 use lib.ListN.{length-map}
 use Rattle.std.specs.Option.{option_flatten, option_map}
 use Rattle.std.specs.List.{slice_get}

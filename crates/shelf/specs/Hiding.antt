@@ -1,6 +1,6 @@
 -- A proof, nothing to believe: what hiding does to the bundle at a place, and that it keeps the limits.
-use Rattle.std.specs.Prelude.{◌≡◌, ℕ, zero, suc, ◌≤◌, Bool, true, false, cond, List, [], ◌∷◌, length, IfSome, Some, None, MatchBool, Option, slice_index_or, refl}
-use Rattle.std.proofs.Common.{sym, ap, ◌∙◌}
+use Rattle.std.specs.Prelude.{◌≡◌, ℕ, zero, suc, Bool, true, false, cond, List, [], ◌∷◌, length, IfSome, Some, None, MatchBool, Option, slice_index_or, refl}
+use Rattle.std.proofs.Common.{ap}
 use Rattle.std.specs.Option.{option_flatten}
 use Rattle.shelf.specs.Meaning.{Meaning, Bundle, bundle_at, FewItems, WellFormed}
 use Rattle.shelf.specs.Hidden.{hidden_by, Covered}

@@ -1,5 +1,5 @@
 -- A proof, nothing to believe: the limits hold where it is known that they do, since each of them can hold in one way only.
-use Rattle.std.specs.Prelude.{ℕ, ◌≤◌, Bool, length, IfSome, Some, None, Option}
+use Rattle.std.specs.Prelude.{◌≤◌, length, IfSome, Some, None, Option}
 use Rattle.std.proofs.Math.Bridge.{le_prop}
 use Rattle.std.proofs.Math.Nat.{ℕ_set}
 use Rattle.std.proofs.Math.Bool.{Bool-set}

@@ -56,6 +56,8 @@ const BASE: PlainBundle<'static> = PlainBundle {
     needs: &[NEEDS_NET, NEEDS_TIME],
 };
 
+const BASE_SECOND: &'static [Option<PlainBundle<'static>>] = &[None, Some(BASE)];
+
 // One import more than a bundle may have.
 const CROWDED: PlainBundle<'static> = PlainBundle {
     needs: &[
@@ -130,6 +132,10 @@ const TWICE: PlainBundle<'static> = PlainBundle {
     ..BASE
 };
 
+const TWICE_ALONE: &'static [Option<PlainBundle<'static>>] = &[Some(TWICE)];
+
+const CROWDED_ALONE: &'static [Option<PlainBundle<'static>>] = &[Some(CROWDED)];
+
 // The client at three shelves: its contract follows at each with no proof of its own.
 fn at_plain(shelf: &PlainShelf<'_>, place: usize, name: &[u8]) -> Option<usize>
     ensures { Found (meant shelf.now.places.now) place name.now result }
@@ -152,7 +158,7 @@ fn under_two<S: Shelf>(shelf: &Hide<Hide<S>>, place: usize, name: &[u8]) -> Opti
 #[test]
 fn clients_at_every_shelf(rt: HostRuntime) {
     let mut plain = PlainShelf::empty();
-    assert!(rt; plain.fill(&[None, Some(BASE)]).is_ok());
+    assert!(rt; plain.fill(BASE_SECOND).is_ok());
     assert_eq!(rt; at_plain(&plain, 1, b"net"), Some(1));
     assert_eq!(rt; export_named(&&plain, 0, b"net"), None);
     assert!(rt; is_named(&Hide::new(&plain), 1, b"base"));
@@ -177,8 +183,8 @@ fn clients_at_every_shelf(rt: HostRuntime) {
 #[test]
 fn what_is_refused(rt: HostRuntime) -> Result<(), Fail> {
     let mut plain = PlainShelf::empty();
-    assert!(rt; plain.fill(&[Some(TWICE)]).is_err());
-    assert!(rt; plain.fill(&[Some(CROWDED)]).is_err());
+    assert!(rt; plain.fill(TWICE_ALONE).is_err());
+    assert!(rt; plain.fill(CROWDED_ALONE).is_err());
     assert_eq!(rt; plain.count(), 0);
     let mut upper = Hide::new(plain);
     assert!(rt; upper.hide(63).is_ok());

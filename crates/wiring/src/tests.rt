@@ -43,10 +43,12 @@ const PANEL: PlainBundle<'static> = PlainBundle {
     ..METER
 };
 
+const PLACES: &'static [Option<PlainBundle<'static>>] = &[Some(PANEL), None, Some(METER)];
+
 #[test]
 fn what_is_offered(rt: HostRuntime) {
     let mut shelf = PlainShelf::empty();
-    assert!(rt; shelf.fill(&[Some(PANEL), None, Some(METER)]).is_ok());
+    assert!(rt; shelf.fill(PLACES).is_ok());
     assert!(rt; is_own(&shelf, 2, 0) && !is_own(&shelf, 0, 0));
     assert!(rt; !fits(&shelf, ControllerNumber(7), 1));
     assert!(rt; offered(&shelf, ControllerNumber(6), 0, 0, 2).is_none());

@@ -1,4 +1,4 @@
-use Rattle.std.proofs.Common.{◌%◌, ◌≤◌, length, drop, sym, refl, ap, ◌∙◌, arith}
+use Rattle.std.proofs.Common.{◌%◌, ◌≤◌, length, sym, refl, ap, ◌∙◌, arith}
 use Rattle.std.proofs.lemmas.List.{drop_all}
 use Rattle.digest.specs.Index.{rolled}
 use Rattle.digest.proofs.Chains.{roll_more}

@@ -1,6 +1,6 @@
-use Rattle.std.proofs.Common.{Decides, refl, arith, below_more}
+use Rattle.std.proofs.Common.{refl, arith, below_more}
 use Rattle.std.proofs.lemmas.Bool.Decides.{not_from_Decides}
-use Rattle.shelf.proofs.Barred.{Bars, bars_at}
+use Rattle.shelf.proofs.Barred.{bars_at}
 use Rattle.shelf.proofs.Every.{decides_yes, decides_no}
 use Rattle.shelf.proofs.listed.is_barred.Goals as goal
 
