@@ -5,7 +5,7 @@ usage: python3 tools/respell.py [FOLDER]
 
 Goes over the .antt, .rt and .edit files below FOLDER/crates (by default this repository) once, and replaces each name of
 respell.txt (a line `OLD NEW`) where it stands as a whole name. Names of functions, exported names and strings are not in
-that table. It is run once, after the toolchain's own port script and before any edit by hand.
+that table. It is run once, after the toolchain's own port script and before any edit by hand; a repository that has the new names is left alone.
 """
 
 import os
@@ -24,8 +24,17 @@ def table():
         return dict(line.split() for line in f if line.strip())
 
 
+def respelled(root):
+    """Whether the new names stand there, told by one definition that nothing else is named like."""
+    with open(os.path.join(root, "manifest", "specs", "Reading.antt"), encoding="utf-8") as f:
+        return "sameVersion" not in f.read()
+
+
 def main():
     root = os.path.join(sys.argv[1] if len(sys.argv) > 1 else os.path.dirname(HERE), "crates")
+    if respelled(root):
+        print("respell: the new names stand here; nothing was changed")
+        return
     names = table()
     for folder, dirs, files in os.walk(root):
         dirs[:] = sorted(d for d in dirs if d not in ("out", "target"))

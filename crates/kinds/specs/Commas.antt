@@ -1,4 +1,4 @@
--- What reads as a number or as a version has no comma in it.
+-- Proofs, nothing to believe: what reads as a number or as a version has no comma in it.
 use Rattle.std.specs.Prelude.{◌≡◌, ℕ, Bool, true, false, cond, not, ◌&&◌, List, [], ◌∷◌, ◌++◌, length, drop, Some, None, Option, ◌==◌, nat_lt, refl}
 use Rattle.std.proofs.Common.{arith, subst}
 use Rattle.std.specs.List.{AllByRecursion}

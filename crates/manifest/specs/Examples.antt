@@ -116,7 +116,7 @@ pub record Examples : Type 0 where
   pub no_uses : Refuses (after (codes "Export-Package: a;uses:=\"\"")) 7 23
   pub late_form : Refuses (after (codes "Export-Package: a;version=\"x\",a;b")) 7 23
   pub no_number : Refuses (after (codes "X-Controller: 65536")) 8 23
-  pub no_version : Refuses (after (codes "Export-Package: a;version=\"\"")) 8 23
+  pub empty_version : Refuses (after (codes "Export-Package: a;version=\"\"")) 8 23
   pub no_range : Refuses (after (codes "Require-Bundle: a;bundle-version=\"[1;2)\"")) 8 23
   pub long_name : Refuses (codes "Bundle-SymbolicName: " ++ (replicate 49 97 ++ codes "\n\n")) 9 0
   pub many_exports : Refuses (after (codes "Export-Package: a" ++ again 16)) 9 23
