@@ -1,3 +1,2 @@
 pub mod Equals
-pub mod Every
 pub mod Splits

@@ -34,11 +34,10 @@ split-none quotes sep inside [] h = refl
 split-none quotes sep inside (x ∷ xs) h =
     none-step quotes sep x xs (eqb x sep && not inside) (turned quotes inside x) h (split-none quotes sep (turned quotes inside x) xs)
 
--- as the code cuts: the first piece is `&text[0..n]`, and the rest `&text[n + 1..]`
+-- as the code cuts: the first piece is `&text[..n]`, and the rest `&text[n + 1..]`
 pub split_at : (quotes : Bool) (sep n : ℕ) (xs : List ℕ) → n ≡ reach quotes sep false xs → n < length xs
-    → split quotes sep false xs ≡ take (n - 0) xs ∷ split quotes sep false (take (length xs - (n + 1)) (drop (n + 1) xs))
+    → split quotes sep false xs ≡ take n xs ∷ split quotes sep false (take (length xs - (n + 1)) (drop (n + 1) xs))
 split_at quotes sep n xs e h =
-    let a : n - 0 ≡ n = omega arith in
     let b : n + 1 ≡ suc n = omega arith in
     let t = take_rest xs (n + 1) in
     let f = split-some quotes sep false xs (omega arith) in cc

@@ -1,5 +1,5 @@
 -- The pieces of a text between separators.
-use Rattle.std.specs.Prelude.{ℕ, suc, Bool, false, cond, not, ◌&&◌, List, [], ◌∷◌, ◌++◌, ◌==◌}
+use Rattle.std.specs.Prelude.{◌≡◌, ℕ, suc, ◌<◌, Bool, false, cond, not, ◌&&◌, List, [], ◌∷◌, ◌++◌, Option, ◌==◌, MatchOption}
 
 -- Whether separators inside double quotes count as well (`false`), or only those outside (`true`), says `quotes`;
 -- `inside` is where the text begins.
@@ -12,6 +12,10 @@ turned quotes inside x = cond (quotes && x == 34) (not inside) inside
 abbrev pub reach : Bool → ℕ → Bool → List ℕ → ℕ
 reach quotes sep inside [] = 0
 reach quotes sep inside (x ∷ xs) = cond (x == sep && not inside) 0 (suc (reach quotes sep (turned quotes inside x) xs))
+
+-- the place of the first of n bytes that is a separator, where `reached` bytes stand before it; none where all do
+abbrev pub Finds : ℕ → ℕ → Option ℕ → Type 0
+Finds reached n result = MatchOption result (reached ≡ n) (λ at. (at ≡ reached) × (at < n))
 
 -- one byte more at the front of the first piece
 abbrev pub on_first : ℕ → List (List ℕ) → List (List ℕ)

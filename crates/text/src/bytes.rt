@@ -13,12 +13,7 @@ pub fn is_word_byte(b: u8) -> bool
 pub fn is_word_text(text: &[u8]) -> bool
     ensures { result ≡ every word text.now }
 {
-    for &b in text {
-        if !is_word_byte(b) {
-            return false;
-        }
-    }
-    true
+    text.iter().all(|&b| is_word_byte(b))
 }
 
 // Whether the two texts have the same bytes in the same order.

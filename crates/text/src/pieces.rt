@@ -1,9 +1,10 @@
 // The pieces of a text between separators, one after the other.
-ghost use Rattle.std.specs.Prelude.{◌≡◌, ◌≤◌, Bool, true, false, [], ◌∷◌, length, MatchOption};
+ghost use Rattle.std.specs.Prelude.{◌≡◌, true, false, ◌∷◌, length};
 ghost use Rattle.std.specs.List.{AllByRecursion};
 ghost use Rattle.text.specs.Bytes.{lacks};
 ghost use Rattle.text.specs.Left.{left, left_of};
-ghost use Rattle.text.specs.Splitting.{parts, reach, rejoined, split};
+ghost use Rattle.std.specs.Iterator.{YieldsFirstRef, item_count};
+ghost use Rattle.text.specs.Splitting.{Finds, parts, reach, rejoined, split};
 
 // A cursor over the pieces that are left; a text has one piece more than it has separators.
 #[derive(Clone, Copy)]
@@ -39,11 +40,17 @@ impl<'a> Pieces<'a> {
             quotes: true,
         }
     }
+}
 
-    // The next piece, if one is left.
-    pub fn next(&mut self) -> Option<&'a [u8]>
-        ensures { MatchOption result ((left self.old ≡ []) × (left self.new ≡ [])) (λ p. left self.old ≡ p.now ∷ left self.new) }
-    {
+// Each piece in turn, and from the end on nothing.
+impl<'a> Iterator for Pieces<'a> {
+    type Item = &'a [u8];
+
+    ghost next_gives = { YieldsFirstRef left };
+
+    ghost remaining = { item_count left };
+
+    fn next(&mut self) -> Option<&'a [u8]> {
         let (piece, rest) = first_piece(self.rest?, self.separator, self.quotes);
         self.rest = rest;
         Some(piece)
@@ -54,28 +61,24 @@ impl<'a> Pieces<'a> {
 fn first_piece(text: &[u8], separator: u8, quotes: bool) -> (&[u8], Option<&[u8]>)
     ensures { split quotes separator false text.now ≡ result.0.now ∷ left_of quotes separator result.1 }
 {
-    let end = find(text, separator, quotes);
-    if end < text.len() {
-        (&text[0..end], Some(&text[end + 1..]))
-    } else {
-        (text, None)
+    match find(text, separator, quotes) {
+        Some(end) => (&text[..end], Some(&text[end + 1..])),
+        None => (text, None),
     }
 }
 
-// How many bytes stand before the first separator: all, where there is none.
-pub fn find(text: &[u8], separator: u8, quotes: bool) -> usize
-    ensures value { result ≡ reach quotes separator false text.now }
-    ensures within { result ≤ length text.now }
+// Where the first separator stands, if there is one; with `quotes`, those inside double quotes do not count.
+pub fn find(text: &[u8], separator: u8, quotes: bool) -> Option<usize>
+    ensures { Finds (reach quotes separator false text.now) (length text.now) result }
 {
     let mut inside = false;
-    for i in 0..text.len() {
-        let b = text[i];
+    for (i, &b) in text.iter().enumerate() {
         if b == separator && !inside {
-            return i;
+            return Some(i);
         }
         if quotes && b == b'"' {
             inside = !inside;
         }
     }
-    text.len()
+    None
 }

@@ -1,12 +1,7 @@
-use Rattle.std.proofs.Common.{rules}
-use Rattle.text.proofs.Every.{fails, passes, all}
+use Rattle.std.proofs.Common.{rules, refl}
+use Rattle.std.proofs.lemmas.List.Recursion.{and_is}
+use Rattle.text.specs.Bytes.{every, word}
 use Rattle.text.proofs.bytes.is_word_text.Goals as goal
 
-pub returns-then-not-is_word_byte : goal.returns-then-not-is_word_byte
-returns-then-not-is_word_byte c = search (rules, fails)
-
-pub loop-b-preserved : goal.loop-b-preserved
-loop-b-preserved c = search (rules, passes)
-
 pub returns : goal.returns
-returns c = search (rules, all)
+returns c = and_is (every word) word refl (λ _ _. refl) c.args.text.now 0 c.all.result (search rules) (search rules)
