@@ -1,14 +1,16 @@
 -- The range that is read is the one that the text means, and there is no other.
-use Rattle.std.proofs.Common.{◌≡◌, ℕ, suc, ◌+◌, ◌-◌, ◌<◌, ◌≤◌, Bool, true, false, cond, not, ◌&&◌, eqb, ltb, List, [], ◌∷◌, ◌++◌, length, get_or, take, drop, Some, None, Option, sym, refl, ap, ◌∙◌, inl, inr, add-one, arith, length-append}
-use native.Mathlib.Nat.{sub-zero}
+use Rattle.std.proofs.Common.{◌≡◌, ℕ, ◌+◌, ◌-◌, ◌<◌, Bool, true, false, cond, ltb, List, [], ◌∷◌, ◌++◌, length, get_or, take, drop, Some, None, Option, sym, refl, ap, ◌∙◌, inl, inr, arith, length-append}
 use Rattle.std.specs.Option.{option_map}
-use Rattle.std.proofs.lemmas.List.{take_at, get_or_at, length_push, nil_from_length, take_rest, take_more, take-append-drop, drop_more, take_all}
-use Rattle.std.proofs.lemmas.Bool.{ltb-true, lt-ltb, le-ltb, eqb-true}
+use Rattle.std.proofs.lemmas.Grind.{common_steps}
+use Rattle.std.proofs.lemmas.Bool.Decides.{nat_tests}
+use Rattle.std.proofs.lemmas.List.{take_at, take-append-drop, drop_more}
+use Rattle.std.proofs.lemmas.Bool.{ltb-true, lt-ltb, le-ltb}
 use Rattle.text.specs.Bytes.{lacks}
 use Rattle.text.specs.Splitting.{reach}
 use Rattle.kinds.specs.declared.range.End.{End}
 use Rattle.kinds.specs.declared.range.Range.{Range}
 use Rattle.kinds.specs.declared.range.Range.TheVariants.{AtLeast, Between}
+use Rattle.kinds.specs.Range.{is_included, value_of}
 use Rattle.kinds.specs.RangeText.{opening, closing, Single, Bracketed, RangeText, Only, end_of, floor_of, ceiling_of, between, range}
 
 abbrev comma : List ℕ → ℕ
@@ -17,87 +19,48 @@ comma text = reach false 44 false text
 -- a text without a comma, and the first comma after such a text
 reach-lacks : (text : List ℕ) → lacks 44 text ≡ true → comma text ≡ length text
 reach-lacks [] h = refl
-reach-lacks (x ∷ xs) h = by (eqb x 44) h (reach-lacks xs)
-  where
-    by : (same : Bool) → (not same && lacks 44 xs) ≡ true → (lacks 44 xs ≡ true → comma xs ≡ length xs) → cond (same && true) 0 (suc (comma xs)) ≡ suc (length xs)
-    by true h more = let z : ◌≡◌ {A = ℕ} 0 1 = cc in absurd (omega arith)
-    by false h more = ap suc (more h)
+reach-lacks (x ∷ xs) h = grind (arith, nat_tests, reach-lacks xs)
 
 reach-after : (front rest : List ℕ) → lacks 44 front ≡ true → comma (front ++ (44 ∷ rest)) ≡ length front
 reach-after [] rest h = refl
-reach-after (x ∷ xs) rest h = by (eqb x 44) h (reach-after xs rest)
-  where
-    by : (same : Bool) → (not same && lacks 44 xs) ≡ true → (lacks 44 xs ≡ true → comma (xs ++ (44 ∷ rest)) ≡ length xs) → cond (same && true) 0 (suc (comma (xs ++ (44 ∷ rest)))) ≡ suc (length xs)
-    by true h more = let z : ◌≡◌ {A = ℕ} 0 1 = cc in absurd (omega arith)
-    by false h more = ap suc (more h)
+reach-after (x ∷ xs) rest h = grind (arith, nat_tests, reach-after xs rest)
 
 -- the byte there is a comma
 reach-at : (text : List ℕ) → comma text < length text → get_or text (comma text) 0 ≡ 44
 reach-at [] h = absurd (omega arith)
-reach-at (x ∷ xs) h = by (eqb x 44) refl h (reach-at xs)
-  where
-    by : (same : Bool) → eqb x 44 ≡ same → cond (same && true) 0 (suc (comma xs)) < suc (length xs) → (comma xs < length xs → get_or xs (comma xs) 0 ≡ 44) → get_or (x ∷ xs) (cond (same && true) 0 (suc (comma xs))) 0 ≡ 44
-    by true e h more = eqb-true x 44 e
-    by false e h more = more (omega arith)
+reach-at (x ∷ xs) h = grind (arith, nat_tests, reach-at xs)
 
 -- an opening bracket is no comma
 opening-lacks : (b : ℕ) (low : Bool) (floor : List ℕ) → opening b ≡ Some low → lacks 44 floor ≡ true → lacks 44 (b ∷ floor) ≡ true
-opening-lacks b low floor e h = by (eqb b 44) refl
-  where
-    by : (same : Bool) → eqb b 44 ≡ same → (not same && lacks 44 floor) ≡ true
-    by true s = let f = eqb-true b 44 s in let z : ◌≡◌ {A = Option Bool} (Some low) None = sym e ∙ ap opening f in let y : ◌≡◌ {A = ℕ} 0 1 = cc in absurd (omega arith)
-    by false s = h
+opening-lacks b low floor e h = grind (arith, nat_tests)
 
 -- where there is a range, both ends are there
 between-some : {K : Type 0} (floor ceiling : Option (End K)) (r : Range K) → between floor ceiling ≡ Some r
     → (low : End K) × (high : End K) × (floor ≡ Some low) × (ceiling ≡ Some high) × (r ≡ Between low high)
-between-some None ceiling r e = let z : ◌≡◌ {A = ℕ} 0 1 = cc in absurd (omega arith)
-between-some (Some f) None r e = let z : ◌≡◌ {A = ℕ} 0 1 = cc in absurd (omega arith)
+between-some None ceiling r e = absurd (cc)
+between-some (Some f) None r e = absurd (cc)
 between-some (Some f) (Some c) r e = (f, c, refl, refl, cc)
 
 end_some : {K : Type 0} (included : Option Bool) (value : Option K) (end : End K) → end_of included value ≡ Some end
-    → (included ≡ Some end.included) × (value ≡ Some end.value)
-end_some None value end e = let z : ◌≡◌ {A = ℕ} 0 1 = cc in absurd (omega arith)
-end_some (Some i) None end e = let z : ◌≡◌ {A = ℕ} 0 1 = cc in absurd (omega arith)
-end_some {K} (Some i) (Some v) end e =
-    let is : record { value = v; included = i } ≡ end = cc in (ap (λ (x : End K). Some x.included) is, ap (λ (x : End K). Some x.value) is)
+    → (included ≡ Some (is_included end)) × (value ≡ Some (value_of end))
+end_some included value end e = (grind arith, grind arith)
 
-end-of : {K : Type 0} (included : Option Bool) (value : Option K) (end : End K) → included ≡ Some end.included → value ≡ Some end.value → end_of included value ≡ Some end
-end-of included value end a b = rw (a, b) refl
+end-of : {K : Type 0} (included : Option Bool) (value : Option K) (end : End K) → included ≡ Some (is_included end) → value ≡ Some (value_of end) → end_of included value ≡ Some end
+end-of included value end a b = grind arith
 
 -- the first byte and the rest, the front and the last byte
 first_rest : (text : List ℕ) (low : Bool) → opening (get_or text 0 0) ≡ Some low → text ≡ get_or text 0 0 ∷ drop 1 text
-first_rest [] low e = let z : ◌≡◌ {A = ℕ} 0 1 = cc in absurd (omega arith)
+first_rest [] low e = absurd (cc)
 first_rest (x ∷ xs) low e = refl
 
 front-last : (text : List ℕ) (high : Bool) → closing (get_or text (length text - 1) 0) ≡ Some high → text ≡ take (length text - 1) text ++ (get_or text (length text - 1) 0 ∷ [])
-front-last [] high e = let z : ◌≡◌ {A = ℕ} 0 1 = cc in absurd (omega arith)
-front-last (x ∷ xs) high e =
-    let n = length (x ∷ xs) - 1 in
-    let m = take_more (x ∷ xs) n 0 (omega arith) in
-    let w : n + 1 ≡ length (x ∷ xs) = omega arith in
-    sym (take_all (n + 1) (x ∷ xs) (omega arith)) ∙ m
+front-last text high e = grind (arith, common_steps, nat_tests)
 
 drop_past : (xs : List ℕ) (b : ℕ) (ys : List ℕ) → drop (length xs + 1) (xs ++ (b ∷ ys)) ≡ ys
 drop_past [] b ys = refl
-drop_past (x ∷ xs) b ys = ap (λ (k : ℕ). drop k (x ∷ (xs ++ (b ∷ ys)))) (add-one (length (x ∷ xs))) ∙ ap (λ (k : ℕ). drop k (xs ++ (b ∷ ys))) (sym (add-one (length xs))) ∙ drop_past xs b ys
+drop_past (x ∷ xs) b ys = grind (arith, common_steps, drop_past xs b ys)
 
 module _ {K : Type 0} (reads : List ℕ → Option K) where
-  -- an end, as the code takes its text apart
-  pub floor-some : (text : List ℕ) (included : Bool) (value : K) → opening (get_or text 0 0) ≡ Some included → reads (take (length text - 1) (drop 1 text)) ≡ Some value
-      → Some (record { value = value; included = included }) ≡ floor_of reads text
-  floor-some text included value a b = sym (end-of (opening (get_or text 0 0)) (reads (drop 1 text)) (record { value = value; included = included }) a (rw take_rest at b))
-
-  pub floor-none : (text : List ℕ) → reads (take (length text - 1) (drop 1 text)) ≡ None → None ≡ floor_of reads text
-  floor-none text b = by (opening (get_or text 0 0)) (reads (drop 1 text)) (rw take_rest at b)
-    where
-      by : (o : Option Bool) (v : Option K) → v ≡ None → None ≡ end_of o v
-      by None v e = refl
-      by (Some i) v e = rw e refl
-
-  pub ceiling-none : (text : List ℕ) → length text < 1 → None ≡ ceiling_of reads text
-  ceiling-none text h = rw (nil_from_length text (omega arith)) refl
-
   cut-form : (text opened closed : List ℕ) → comma text < length text → take (comma text) text ≡ opened → drop (comma text + 1) text ≡ closed → text ≡ opened ++ (44 ∷ closed)
   cut-form text opened closed h b a =
       let n = comma text in
@@ -122,7 +85,7 @@ module _ {K : Type 0} (reads : List ℕ → Option K) where
         ceiling_text = take (length a - 1) a;
         closer = get_or a (length a - 1) 0;
         form = cut-form text (get_or b 0 0 ∷ drop 1 b) (take (length a - 1) a ++ (get_or a (length a - 1) 0 ∷ [])) h
-            (first_rest b floor.included low.0) (front-last a ceiling.included high.0);
+            (first_rest b (is_included floor) low.0) (front-last a (is_included ceiling) high.0);
         floor = floor;
         ceiling = ceiling;
         opens = low.0;
@@ -133,7 +96,7 @@ module _ {K : Type 0} (reads : List ℕ → Option K) where
       }
 
   single : (text : List ℕ) (o : Option K) (r : Range K) → reads text ≡ o → option_map AtLeast o ≡ Some r → Single reads text r
-  single text None r was e = let z : ◌≡◌ {A = ℕ} 0 1 = cc in absurd (omega arith)
+  single text None r was e = absurd (cc)
   single text (Some v) r was e = record { value = v; reading = was; meaning = cc }
 
   pub sound : (text : List ℕ) (r : Range K) → range reads text ≡ Some r → RangeText reads text r
@@ -152,18 +115,14 @@ module _ {K : Type 0} (reads : List ℕ → Option K) where
         rw t (ap (option_map AtLeast) s.reading ∙ ap Some (sym s.meaning))
 
     ceiling-at : (text : List ℕ) (b : ℕ) → ceiling_of reads (text ++ (b ∷ [])) ≡ end_of (closing b) (reads text)
-    ceiling-at text b =
-        let n : length (text ++ (b ∷ [])) - 1 ≡ length text = omega (arith, length_push text b) in
-        let front : take (length (text ++ (b ∷ [])) - 1) (text ++ (b ∷ [])) ≡ text = ap (λ (k : ℕ). take k (text ++ (b ∷ []))) n ∙ take_at text (b ∷ []) (length text) refl in
-        let last : get_or (text ++ (b ∷ [])) (length (text ++ (b ∷ [])) - 1) 0 ≡ b = ap (λ (k : ℕ). get_or (text ++ (b ∷ [])) k 0) n ∙ get_or_at text b [] 0 (length text) refl in
-        ap (λ (x : ℕ). end_of (closing x) (reads (take (length (text ++ (b ∷ [])) - 1) (text ++ (b ∷ []))))) last ∙ ap (λ (x : List ℕ). end_of (closing b) (reads x)) front
+    ceiling-at text b = grind (arith, common_steps)
 
     bracketed_read : (text : List ℕ) (r : Range K) → Bracketed reads text r → range reads text ≡ Some r
     bracketed_read text r s =
         let opened = s.opener ∷ s.floor_text in
         let closed = s.ceiling_text ++ (s.closer ∷ []) in
         let n : comma text ≡ length opened =
-        ap comma s.form ∙ reach-after opened closed (opening-lacks s.opener s.floor.included s.floor_text s.opens (commaless s.floor_text s.floor.value s.starts)) in
+        ap comma s.form ∙ reach-after opened closed (opening-lacks s.opener (is_included s.floor) s.floor_text s.opens (commaless s.floor_text (value_of s.floor) s.starts)) in
         let b : take (comma text) text ≡ opened = ap (λ (k : ℕ). take k text) n ∙ ap (take (length opened)) s.form ∙ take_at opened (44 ∷ closed) (length opened) refl in
         let a : drop (comma text + 1) text ≡ closed = ap (λ (k : ℕ). drop (k + 1) text) n ∙ ap (drop (length opened + 1)) s.form ∙ drop_past opened 44 closed in
         let t : ltb (comma text) (length text) ≡ true = lt-ltb (comma text) (length text) (omega (arith, n, ap length s.form, length-append opened (44 ∷ closed))) in
@@ -178,31 +137,5 @@ module _ {K : Type 0} (reads : List ℕ → Option K) where
     complete text r (inr s) = bracketed_read text r s
 
     pub only : (text : List ℕ) (r : Option (Range K)) → r ≡ range reads text → Only (RangeText reads text) r
-    only text None e = λ x form. let z : ◌≡◌ {A = Option (Range K)} None (Some x) = e ∙ complete text x form in let y : ◌≡◌ {A = ℕ} 0 1 = cc in omega arith
-    only text (Some x) e = (sound text x (sym e), λ y form. let z : ◌≡◌ {A = Option (Range K)} (Some y) (Some x) = sym (complete text y form) ∙ sym e in cc)
-
-  -- the function, as the code goes: without a comma
-  module _ (text : List ℕ) (n : ℕ) (at : n ≡ comma text) (whole : length text ≤ n) where
-    uncut : range reads text ≡ option_map AtLeast (reads text)
-    uncut = rw (le-ltb (comma text) (length text) (omega arith)) refl
-
-    pub single-none : (o : Option (Range K)) → o ≡ None → reads text ≡ None → o ≡ range reads text
-    single-none o e none = e ∙ sym (uncut ∙ ap (option_map AtLeast) none)
-
-    pub single-some : (value : K) → reads text ≡ Some value → Some (AtLeast value) ≡ range reads text
-    single-some value some = sym (uncut ∙ ap (option_map AtLeast) some)
-
-  -- and with one
-  module _ (text : List ℕ) (n : ℕ) (at : n ≡ comma text) (within : n < length text) where
-    cut : range reads text ≡ between (floor_of reads (take (n - 0) text)) (ceiling_of reads (take (length text - (n + 1)) (drop (n + 1) text)))
-    cut = rw (lt-ltb (comma text) (length text) (omega arith), ← at, sub-zero, take_rest) refl
-
-    pub cut-none : (o : Option (Range K)) → o ≡ None → floor_of reads (take (n - 0) text) ≡ None → o ≡ range reads text
-    cut-none o e none = e ∙ sym (cut ∙ rw none refl)
-
-    pub cut_open : (o : Option (Range K)) (floor : End K) → o ≡ None → floor_of reads (take (n - 0) text) ≡ Some floor → ceiling_of reads (take (length text - (n + 1)) (drop (n + 1) text)) ≡ None → o ≡ range reads text
-    cut_open o floor e some none = e ∙ sym (cut ∙ rw (some, none) refl)
-
-    pub cut-some : (floor ceiling : End K) → floor_of reads (take (n - 0) text) ≡ Some floor → ceiling_of reads (take (length text - (n + 1)) (drop (n + 1) text)) ≡ Some ceiling
-        → Some (Between floor ceiling) ≡ range reads text
-    cut-some floor ceiling some more = sym (cut ∙ rw (some, more) refl)
+    only text None e = λ x form. let z = complete text x form in cc
+    only text (Some x) e = (sound text x (sym e), λ y form. let z = complete text y form in cc)

@@ -6,3 +6,4 @@ pub mod Range
 pub mod RangeText
 pub mod Examples
 pub mod Commas
+pub mod Printed

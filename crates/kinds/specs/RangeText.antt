@@ -3,16 +3,22 @@ use Rattle.std.specs.Prelude.{◌≡◌, ℕ, ◌+◌, ◌-◌, Bool, true, fals
 use Rattle.std.specs.Option.{option_map}
 use Rattle.text.specs.Splitting.{reach}
 use Rattle.kinds.specs.declared.range.End.{End}
+use Rattle.kinds.specs.declared.range.End.TheVariants.{Included, Excluded}
 use Rattle.kinds.specs.declared.range.Range.{Range}
 use Rattle.kinds.specs.declared.range.Range.TheVariants.{AtLeast, Between}
+use Rattle.kinds.specs.Range.{is_included, value_of}
+
+-- whether a bracket includes its end, of a side's two: the square one does, the round one does not, and no other byte is one
+abbrev pub bracketing : ℕ → ℕ → ℕ → Option Bool
+bracketing square round b = cond (b == square) (Some true) (cond (b == round) (Some false) None)
 
 -- whether an opening bracket includes the floor: `[` does, `(` does not, and no other byte opens
 abbrev pub opening : ℕ → Option Bool
-opening b = cond (b == 91) (Some true) (cond (b == 40) (Some false) None)
+opening b = bracketing 91 40 b
 
 -- whether a closing bracket includes the ceiling: `]` does, `)` does not
 abbrev pub closing : ℕ → Option Bool
-closing b = cond (b == 93) (Some true) (cond (b == 41) (Some false) None)
+closing b = bracketing 93 41 b
 
 -- a text that reads as a value means that value or above
 pub record Single {K : Type 0} (reads : List ℕ → Option K) (text : List ℕ) (r : Range K) : Type 0 where
@@ -29,10 +35,10 @@ pub record Bracketed {K : Type 0} (reads : List ℕ → Option K) (text : List �
   pub form : text ≡ opener ∷ (floor_text ++ (44 ∷ (ceiling_text ++ (closer ∷ []))))
   pub floor : End K
   pub ceiling : End K
-  pub opens : opening opener ≡ Some floor.included
-  pub starts : reads floor_text ≡ Some floor.value
-  pub stops : reads ceiling_text ≡ Some ceiling.value
-  pub closes : closing closer ≡ Some ceiling.included
+  pub opens : opening opener ≡ Some (is_included floor)
+  pub starts : reads floor_text ≡ Some (value_of floor)
+  pub stops : reads ceiling_text ≡ Some (value_of ceiling)
+  pub closes : closing closer ≡ Some (is_included ceiling)
   pub meaning : r ≡ Between floor ceiling
 
 -- the text reads as the range r
@@ -48,7 +54,8 @@ Only {X} P (Some x) = P x × ((y : X) → P y → y ≡ x)
 abbrev pub end_of : {K : Type 0} → Option Bool → Option K → Option (End K)
 end_of None value = None
 end_of (Some included) None = None
-end_of (Some included) (Some value) = Some (record { value = value; included = included })
+end_of (Some true) (Some value) = Some (Included value)
+end_of (Some false) (Some value) = Some (Excluded value)
 
 -- an opening bracket and a floor's text
 abbrev pub floor_of : {K : Type 0} → (List ℕ → Option K) → List ℕ → Option (End K)

@@ -2,24 +2,18 @@
 ghost use Rattle.std.specs.Prelude.{◌≡◌};
 ghost use Rattle.kinds.specs.Number.{number};
 
-const MOST: u32 = 65535;
-
-// One digit or more; leading zeros are allowed, however many.
+// One digit or more; leading zeros are allowed, however many. (A `parse` would take a leading `+` too.)
+#[tactic(auto, using(crate::proofs::Numerals::passes, crate::proofs::Numerals::ends))]
 pub fn read_u16(text: &[u8]) -> Option<u16>
     ensures { result ≡ number text.now }
 {
     if text.is_empty() {
         return None;
     }
-    let mut n: u32 = 0;
+    let mut n: u16 = 0;
     for &b in text {
-        if b < b'0' || b > b'9' {
-            return None;
-        }
-        n = n * 10 + (b - b'0') as u32;
-        if n > MOST {
-            return None;
-        }
+        let digit = char::from(b).to_digit(10)?;
+        n = n.checked_mul(10)?.checked_add(digit as u16)?;
     }
-    Some(n as u16)
+    Some(n)
 }

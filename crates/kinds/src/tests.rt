@@ -1,9 +1,10 @@
 #[cfg(test)]
 mod cases {
     use crate::controller::ControllerNumber;
-    use crate::kind::{Ordered, Readable};
+    use crate::kind::{FromText, Readable};
     use crate::range::Range;
     use crate::version::Version;
+    use std::alloc::AllocError;
 
     // A text and the major, minor and micro that it reads as.
     const VERSIONS: [(&[u8], Option<(u16, u16, u16)>); 14] = [
@@ -26,16 +27,7 @@ mod cases {
     #[test]
     fn versions(rt: HostRuntime) {
         for (text, expected) in VERSIONS {
-            let read = match Version::read(text) {
-                Some(
-                    Version {
-                        major,
-                        minor,
-                        micro,
-                    },
-                ) => Some((major, minor, micro)),
-                None => None,
-            };
+            let read = Version::read(text).map(|v| (v.major, v.minor, v.micro));
             assert!(rt; read == expected);
         }
     }
@@ -81,6 +73,18 @@ mod cases {
         for (range, value, expected) in CONTROLLERS {
             assert!(rt; member::<ControllerNumber>(range, value) == expected);
         }
+    }
+
+    // Ranges, each the text of what it reads as, and a version.
+    #[test]
+    fn printed(rt: HostRuntime) -> Result<(), AllocError> {
+        for text in ["7", "[7,9)", "(0,65535]"] {
+            let range = Range::<ControllerNumber>::read(text.as_bytes()).unwrap_or_default();
+            assert!(rt; range.to_string(rt.alloc())?.as_str() == text);
+        }
+        let version = Version::read(b"01.2").unwrap_or_default();
+        assert!(rt; version.to_string(rt.alloc())?.as_str() == "1.2.0");
+        Ok(())
     }
 
     fn member<K: Readable>(range: &[u8], value: &[u8]) -> Option<bool> {

@@ -1,53 +1,49 @@
 // Versions of bundles and packages.
-ghost use Rattle.std.specs.Prelude.{◌≡◌, drop};
+ghost use Rattle.std.specs.Prelude.{◌≡◌, drop, Some};
 ghost use Rattle.text.specs.Left.{left};
 ghost use Rattle.kinds.specs.Version.{lower, front, closes, version};
 ghost use Rattle.std.proofs.Common.{rules};
 ghost use Rattle.kinds.specs.Commas.{version-lacks};
+ghost use Rattle.kinds.specs.Printed.{version_text};
 
-use crate::kind::{Ordered, Readable};
+use crate::kind::{FromText, Readable};
 use crate::number::read_u16;
+use std::fmt;
 use text::bytes::is_word_text;
 use text::pieces::Pieces;
 
 // Three numbers that compare in this order.
-#[derive(Clone, Copy)]
+#[derive(Clone, Copy, Debug, Default, PartialEq, Eq, PartialOrd, Ord)]
 pub struct Version {
     pub major: u16,
     pub minor: u16,
     pub micro: u16,
 }
 
-impl Ordered for Version {
-    ghost below = { lower };
-
-    ghost either = { Prim.search rules };
-
-    ghost transitive = { Prim.search rules };
-
-    fn is_below(&self, other: &Version) -> bool {
-        self.major < other.major
-            || self.major == other.major
-                && (self.minor < other.minor
-                    || self.minor == other.minor && self.micro < other.micro)
+impl Version {
+    // Whether this is the lower of two versions: the order of the fields is that of versions.
+    pub fn is_below(&self, other: &Version) -> bool
+        ensures { result ≡ lower self.now other.now }
+    {
+        self < other
     }
 }
 
-impl Readable for Version {
-    ghost least = { record { major = 0; minor = 0; micro = 0 } };
+impl fmt::Display for Version {
+    ghost output = { λ v. Some (version_text v) };
+
+    fn fmt<W: fmt::Write>(&self, f: &mut fmt::Formatter<W>) -> fmt::Result {
+        write!(f, "{}.{}.{}", self.major, self.minor, self.micro)
+    }
+}
+
+impl FromText for Version {
+    ghost missing = { record { major = 0; minor = 0; micro = 0 } };
 
     ghost reads = { version };
 
-    ghost lowest = { Prim.search rules };
-
-    ghost commaless = { version-lacks };
-
     fn missing() -> Version {
-        Version {
-            major: 0,
-            minor: 0,
-            micro: 0,
-        }
+        Version::default()
     }
 
     fn read(text: &[u8]) -> Option<Version> {
@@ -55,16 +51,20 @@ impl Readable for Version {
         let major = next_number(&mut parts)?;
         let minor = next_number(&mut parts)?;
         let micro = next_number(&mut parts)?;
-        if is_closed(parts) {
-            Some(Version {
-                major,
-                minor,
-                micro,
-            })
-        } else {
-            None
-        }
+        is_closed(parts).then_some(Version {
+            major,
+            minor,
+            micro,
+        })
     }
+}
+
+impl Readable for Version {
+    ghost apart = { Prim.search rules };
+
+    ghost lowest = { Prim.search rules };
+
+    ghost commaless = { version-lacks };
 }
 
 // The next part as a number, 0 where no part is left.
@@ -85,8 +85,5 @@ fn is_closed(mut parts: Pieces<'_>) -> bool
     let Some(qualifier) = parts.next() else {
         return true;
     };
-    if parts.next().is_some() {
-        return false;
-    }
-    qualifier.len() > 0 && is_word_text(qualifier)
+    parts.next().is_none() && !qualifier.is_empty() && is_word_text(qualifier)
 }

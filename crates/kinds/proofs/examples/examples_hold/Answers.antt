@@ -1,4 +1,4 @@
-use Rattle.std.proofs.Common.{refl}
+use Rattle.std.proofs.Common.{refl, rules}
 use Rattle.kinds.specs.Examples.{memberships}
 use Rattle.kinds.proofs.Tables.{all_right, nothing_between}
 use Rattle.kinds.proofs.examples.examples_hold.Goals as goal
@@ -6,9 +6,9 @@ use Rattle.kinds.proofs.examples.examples_hold.Goals as goal
 pub returns : goal.returns
 returns c =
     record {
-      of_versions = (refl, (refl, (refl, (refl, (refl, (refl, (refl, (refl, (refl, (refl, (refl, (refl, (refl, (refl, (refl, (refl, (refl, (refl, tt))))))))))))))))));
-      of_controllers = (refl, (refl, (refl, (refl, (refl, (refl, (refl, tt)))))));
-      of_no_ranges = (refl, (refl, (refl, (refl, (refl, (refl, (refl, (refl, (refl, (refl, (refl, tt)))))))))));
+      of_versions = search rules;
+      of_controllers = search rules;
+      of_no_ranges = search rules;
       of_memberships = all_right memberships refl;
       of_nothing = λ x h. nothing_between x h.0 h.1;
     }
