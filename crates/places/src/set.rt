@@ -1,19 +1,35 @@
 // A set of places 0 to 63, one bit to a place. What is not such a place is in no set.
-ghost use Rattle.std.specs.Prelude.{◌≡◌, ℕ, ◌<◌, true, false, not, ◌&&◌, ◌||◌, Decides, MatchOption};
+ghost use Rattle.std.specs.Prelude.{◌≡◌, ℕ, ◌<◌, ◌≤◌, true, false, not, ◌&&◌, ◌||◌, Decides, MatchOption};
 ghost use Rattle.places.specs.Members.{only};
 ghost use Rattle.places.specs.Sets.{has, rank, Lowest};
 
 // More places than this no shelf has.
 pub const PLACES: usize = 64;
 
-#[derive(Clone, Copy)]
+#[derive(Clone, Copy, PartialEq, Eq, Debug, Default)]
 pub struct PlaceSet(u64);
 
+#[tactic(auto, using(crate::proofs::Sets::operations))]
 impl PlaceSet {
     pub fn empty() -> PlaceSet
         ensures { (p : ℕ) → has result p ≡ false }
     {
         PlaceSet(0)
+    }
+
+    // The places that pass the test.
+    pub fn those<F: Fn(usize) -> bool>(test: F) -> PlaceSet
+        requires { F.IsAlwaysCallable test }
+        ensures places { (p : ℕ) → p < 64 → F.post test p (has result p) }
+        ensures others { (p : ℕ) → 64 ≤ p → has result p ≡ false }
+    {
+        let mut found = PlaceSet::empty();
+        for place in 0..PLACES {
+            if test(place) {
+                found.insert(place);
+            }
+        }
+        found
     }
 
     pub fn contains(self, place: usize) -> bool
@@ -38,7 +54,7 @@ impl PlaceSet {
     {
         let bits = self.0;
         if place < PLACES {
-            self.0 = bits ^ (bits & (1 << place));
+            self.0 = bits & !(1 << place);
         }
     }
 
@@ -58,7 +74,7 @@ impl PlaceSet {
     pub fn difference(self, other: PlaceSet) -> PlaceSet
         ensures { (p : ℕ) → has result p ≡ (has self p && not (has other p)) }
     {
-        PlaceSet(self.0 ^ (self.0 & other.0))
+        PlaceSet(self.0 & !other.0)
     }
 
     pub fn is_empty(self) -> bool
@@ -71,7 +87,7 @@ impl PlaceSet {
     pub fn is_same(self, other: PlaceSet) -> bool
         ensures { Decides result ((p : ℕ) → has self p ≡ has other p) }
     {
-        self.0 == other.0
+        self == other
     }
 
     pub fn lowest(self) -> Option<usize>

@@ -1,4 +1,7 @@
 // Sets of a few places.
+ghost use Rattle.std.specs.Prelude.{◌≡◌, ℕ, ◌&&◌, nat_lt};
+ghost use Rattle.places.specs.Sets.{has};
+
 use crate::set::PlaceSet;
 
 #[test]
@@ -12,4 +15,27 @@ fn in_and_out(rt: HostRuntime) {
     set.remove(5);
     assert_eq!(rt; set.lowest(), Some(63));
     assert!(rt; set.difference(set).is_empty());
+}
+
+fn is_under(place: usize, ceiling: usize) -> bool
+    ensures { result ≡ (nat_lt place ceiling && nat_lt place 64) }
+{
+    place < ceiling && place < 64
+}
+
+// A set by a test that captures: its contract follows from that of the test.
+fn under(ceiling: usize) -> PlaceSet
+    ensures { (p : ℕ) → has result p ≡ (nat_lt p ceiling && nat_lt p 64) }
+{
+    PlaceSet::those(|place| is_under(place, ceiling))
+}
+
+#[test]
+fn by_a_test(rt: HostRuntime) {
+    let mut set = PlaceSet::empty();
+    set.insert(0);
+    set.insert(1);
+    assert_eq!(rt; under(2), set);
+    assert!(rt; PlaceSet::those(|place| place > 63).is_empty());
+    assert!(rt; PlaceSet::default() != set);
 }

@@ -54,10 +54,7 @@ impl<'a, T: Copy> Stack<'a, T> {
         ensures popped { Popped self.old self.new result }
         ensures cells { cells_of self.new ≡ cells_of self.old }
     {
-        if self.len == 0 {
-            return None;
-        }
-        let at = self.len - 1;
+        let at = self.len.checked_sub(1)?;
         self.len = at;
         Some(self.cells[at])
     }
