@@ -1,36 +1,30 @@
--- What holds at every index of a list that a function was mapped over.
-use Rattle.std.proofs.Common.{◌≡◌, ℕ, zero, suc, ◌<◌, Bool, true, false, List, [], ◌∷◌, map, length, Some, None, Decides, Option, sym, refl, ap, ◌∙◌, subst, ⊎_elim, arith}
-use lib.ListN.{length-map}
+-- What holds of each item of a list, and at each index of a list that a function was mapped over.
+use Rattle.std.proofs.Common.{◌≡◌, ℕ, zero, suc, Bool, false, All, List, [], ◌∷◌, map, IfSome, Some, None, Decides, Option, refl, sym, ap, ◌∙◌, arith}
 use Rattle.std.specs.Option.{option_map}
 use Rattle.std.specs.List.{slice_get}
-use Rattle.std.proofs.lemmas.Option.{slice_get_past}
-use Rattle.std.proofs.lemmas.Bool.{cases_lt, both_ways}
-
-pub decides_yes : {P : Type 0} → P → Decides true P
-decides_yes p = (λ _. p, λ _. refl)
+use Rattle.std.proofs.lemmas.Bool.{both_ways}
+use Rattle.std.proofs.lemmas.Option.{slice_get-map}
 
 pub decides_no : {P : Type 0} (r : Bool) → r ≡ false → (P → ⊥) → Decides r P
 decides_no r e never = (λ t. absurd (both_ways r e t), λ p. absurd (never p))
 
-pub nth-map : {X Y : Type 0} (f : X → Y) (xs : List X) (k : ℕ) → slice_get (map f xs) k ≡ option_map f (slice_get xs k)
-nth-map f [] k = refl
-nth-map f (x ∷ xs) zero = refl
-nth-map f (x ∷ xs) (suc k) = nth-map f xs k
-
 pub nth_mapped : {X Y : Type 0} (f : X → Y) (xs : List X) (k : ℕ) (x : X) → slice_get xs k ≡ Some x → slice_get (map f xs) k ≡ Some (f x)
-nth_mapped f xs k x h = nth-map f xs k ∙ ap (option_map f) h
+nth_mapped f xs k x h = slice_get-map f xs k ∙ ap (option_map f) h
 
-unmapped : {X Y : Type 0} (f : X → Y) (o : Option X) (y : Y) → option_map f o ≡ Some y → (x : X) × (o ≡ Some x) × (f x ≡ y)
-unmapped f None y h = let z : ◌≡◌ {A = ℕ} 0 1 = cc in absurd (omega arith)
+pub unmapped : {X Y : Type 0} (f : X → Y) (o : Option X) (y : Y) → option_map f o ≡ Some y → (x : X) × (o ≡ Some x) × (f x ≡ y)
+unmapped f None y h = cc
 unmapped f (Some x) y h = (x, refl, cc)
 
 pub nth_unmapped : {X Y : Type 0} (f : X → Y) (xs : List X) (k : ℕ) (y : Y) → slice_get (map f xs) k ≡ Some y → (x : X) × (slice_get xs k ≡ Some x) × (f x ≡ y)
-nth_unmapped f xs k y h = unmapped f (slice_get xs k) y (sym (nth-map f xs k) ∙ h)
+nth_unmapped f xs k y h = unmapped f (slice_get xs k) y (sym (slice_get-map f xs k) ∙ h)
 
--- what holds of no item, and of what stands below the length, holds at every index
-pub every-index : {X Y : Type 0} (f : X → Y) (P : Option Y → Type 0) → P None → (xs : List X) → ((k : ℕ) → k < length xs → P (slice_get (map f xs) k)) → (k : ℕ) → P (slice_get (map f xs) k)
-every-index f P none xs below k =
-    ⊎_elim
-    (λ lt. below k lt)
-    (λ le. subst P (sym (slice_get_past (map f xs) k (omega (arith, length-map xs f)))) none)
-    (cases_lt k (length xs))
+module _ {X Y : Type 0} (f : X → Y) (P : Y → Type 0) where
+  pub each_at : (xs : List X) → All (λ x. P (f x)) xs → (k : ℕ) → IfSome (slice_get (map f xs) k) P
+  each_at [] all k = tt
+  each_at (x ∷ xs) all zero = all 0 x (omega arith)
+  each_at (x ∷ xs) all (suc k) = each_at xs (λ i d lt. all (suc i) d (omega arith)) k
+
+  pub all_from_each : (xs : List X) → ((k : ℕ) → IfSome (slice_get (map f xs) k) P) → All (λ x. P (f x)) xs
+  all_from_each [] each k d lt = absurd (omega arith)
+  all_from_each (x ∷ xs) each zero d lt = each 0
+  all_from_each (x ∷ xs) each (suc k) d lt = all_from_each xs (λ i. each (suc i)) k d (omega arith)

@@ -2,4 +2,3 @@ pub mod Exported
 pub mod Every
 pub mod Barred
 pub mod Keeping
-pub mod Reading

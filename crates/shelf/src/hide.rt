@@ -1,10 +1,11 @@
 // A layer over any shelf that hides some of its places.
-ghost use Rattle.std.specs.Prelude.{◌≡◌, ◌≤◌, true, false, length, replicate, slice_index_or, slice_set};
-ghost use Rattle.shelf.specs.Hidden.{Covered, hidden_by};
+ghost use Rattle.std.specs.Prelude.{◌≡◌, true, false, length, replicate, slice_index_or, None, MatchOption};
+ghost use Rattle.shelf.specs.Hidden.{Covered, Marked, hidden_by};
 ghost use Rattle.shelf.specs.Hiding.{hidden_formed};
-ghost use Rattle.shelf.specs.Refusal.{HideAnswer};
+ghost use Rattle.shelf.specs.Meaning.{bundle_at};
 
 use crate::export::Export;
+use crate::limits::PLACES;
 use crate::need::Need;
 use crate::refusal::HideRefusal;
 use crate::shelf::Shelf;
@@ -12,14 +13,11 @@ use kinds::controller::ControllerNumber;
 use kinds::range::Range;
 use kinds::version::Version;
 
-// A flag for each place that a shelf can have.
-const FLAGS: usize = 64;
-
 // A hidden place reads as absent, every other as below; the count stays.
 #[derive(Drop)]
 pub struct Hide<S> {
     below: S,
-    hidden: [bool; 64],
+    hidden: [bool; PLACES],
     ghost whole: { length hidden ≡ 64 },
 }
 
@@ -30,36 +28,31 @@ impl<S: Shelf> Hide<S> {
     {
         Hide {
             below,
-            hidden: [false; 64],
+            hidden: [false; PLACES],
         }
     }
 
     pub fn hide(&mut self, place: usize) -> Result<(), HideRefusal>
         ensures below { self.new.below ≡ self.old.below }
-        ensures flags { self.new.hidden ≡ slice_set self.old.hidden place true }
-        ensures granted { HideAnswer place result }
-        ensures refused { 64 ≤ place → self.new.hidden ≡ self.old.hidden }
+        ensures marked { Marked self.old.hidden place true self.new.hidden result }
     {
         self.mark(place, true)
     }
 
     pub fn show(&mut self, place: usize) -> Result<(), HideRefusal>
         ensures below { self.new.below ≡ self.old.below }
-        ensures flags { self.new.hidden ≡ slice_set self.old.hidden place false }
-        ensures granted { HideAnswer place result }
-        ensures refused { 64 ≤ place → self.new.hidden ≡ self.old.hidden }
+        ensures marked { Marked self.old.hidden place false self.new.hidden result }
     {
         self.mark(place, false)
     }
 
     // The flag of one place is changed, no other.
+    #[tactic(auto, using(std::proofs::lemmas::List::set_past))]
     fn mark(&mut self, place: usize, flag: bool) -> Result<(), HideRefusal>
         ensures below { self.new.below ≡ self.old.below }
-        ensures flags { self.new.hidden ≡ slice_set self.old.hidden place flag }
-        ensures granted { HideAnswer place result }
-        ensures refused { 64 ≤ place → self.new.hidden ≡ self.old.hidden }
+        ensures marked { Marked self.old.hidden place flag self.new.hidden result }
     {
-        if place >= FLAGS {
+        if place >= PLACES {
             return Err(HideRefusal::NoSuchPlace);
         }
         self.hidden[place] = flag;
@@ -67,17 +60,23 @@ impl<S: Shelf> Hide<S> {
     }
 
     // Every question goes by what this means for the bundle at the place.
+    #[tactic(auto, using(crate::specs::Hiding::covered))]
     pub fn is_hidden(&self, place: usize) -> bool
         ensures flag { result ≡ slice_index_or self.now.hidden place false }
         ensures meaning { Covered result self.now.hidden (S.Shelf.meaning self.now.below) place }
     {
-        self.flag(place)
+        self.hidden.get(place).copied().unwrap_or(false)
     }
 
-    fn flag(&self, place: usize) -> bool
-        ensures { result ≡ slice_index_or self.now.hidden place false }
+    // The shelf below, unless the place is hidden.
+    fn shown(&self, place: usize) -> Option<&S>
+        ensures { let below = S.Shelf.meaning self.now.below in let above = hidden_by self.now.hidden below in MatchOption result (bundle_at above place ≡ None) (λ s. (s.now ≡ self.now.below) × (bundle_at above place ≡ bundle_at below place)) }
     {
-        place < FLAGS && self.hidden[place]
+        if self.is_hidden(place) {
+            None
+        } else {
+            Some(&self.below)
+        }
     }
 }
 
@@ -86,6 +85,7 @@ impl<S: Shelf> Shelf for Hide<S> {
 
     ghost formed = { λ h. hidden_formed h.hidden (S.Shelf.meaning h.below) (S.Shelf.formed h.below) };
 
+    #[tactic(auto, using(crate::specs::Hiding::length_hidden))]
     fn count(&self) -> usize {
         self.below.count()
     }
@@ -95,50 +95,26 @@ impl<S: Shelf> Shelf for Hide<S> {
     }
 
     fn name(&self, place: usize) -> Option<&[u8]> {
-        if self.is_hidden(place) {
-            None
-        } else {
-            self.below.name(place)
-        }
+        self.shown(place)?.name(place)
     }
 
     fn version(&self, place: usize) -> Option<Version> {
-        if self.is_hidden(place) {
-            None
-        } else {
-            self.below.version(place)
-        }
+        self.shown(place)?.version(place)
     }
 
     fn controllers(&self, place: usize) -> Option<Range<ControllerNumber>> {
-        if self.is_hidden(place) {
-            None
-        } else {
-            self.below.controllers(place)
-        }
+        self.shown(place)?.controllers(place)
     }
 
     fn export(&self, place: usize, j: usize) -> Option<Export<'_>> {
-        if self.is_hidden(place) {
-            None
-        } else {
-            self.below.export(place, j)
-        }
+        self.shown(place)?.export(place, j)
     }
 
     fn used(&self, place: usize, j: usize, k: usize) -> Option<&[u8]> {
-        if self.is_hidden(place) {
-            None
-        } else {
-            self.below.used(place, j, k)
-        }
+        self.shown(place)?.used(place, j, k)
     }
 
     fn need(&self, place: usize, k: usize) -> Option<Need<'_>> {
-        if self.is_hidden(place) {
-            None
-        } else {
-            self.below.need(place, k)
-        }
+        self.shown(place)?.need(place, k)
     }
 }

@@ -3,7 +3,8 @@
 
 pub mod export;
 pub mod hide;
-mod limits;
+mod lawful;
+pub mod limits;
 mod listed;
 pub mod lookup;
 pub mod need;

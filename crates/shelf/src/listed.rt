@@ -1,6 +1,6 @@
 // Lists of which some items may not stand before others.
-ghost use Rattle.std.specs.Prelude.{◌<◌, length, Decides};
-ghost use Rattle.shelf.specs.Limits.{BarredAt, Clear};
+ghost use Rattle.std.specs.Prelude.{Decides};
+ghost use Rattle.shelf.specs.Limits.{Clear};
 
 // An item of such a list.
 pub trait Listed {
@@ -15,23 +15,12 @@ pub trait Listed {
 pub fn is_clear<T: Listed>(items: &[T]) -> bool
     ensures { Decides result (Clear T.Listed.barred items.now) }
 {
-    for i in 0..items.len() {
-        if is_barred(items, i) {
+    let mut rest = items;
+    while let Some((item, later)) = rest.split_first() {
+        if later.iter().any(|other| item.bars(other)) {
             return false;
         }
+        rest = later;
     }
     true
-}
-
-// Whether an item before it bars item i.
-fn is_barred<T: Listed>(items: &[T], i: usize) -> bool
-    requires { i < length items.now }
-    ensures { Decides result (BarredAt T.Listed.barred items.now i) }
-{
-    for j in 0..i {
-        if items[j].bars(&items[i]) {
-            return true;
-        }
-    }
-    false
 }

@@ -1,14 +1,13 @@
 // A shelf of plain values, lent by the caller.
-ghost use Rattle.std.specs.Prelude.{◌≡◌, [], is_ok, if◌then◌else◌, MatchResult};
+ghost use Rattle.std.specs.Prelude.{◌≡◌, [], IfOk, MatchResult};
 ghost use Rattle.std.specs.Option.{option_map};
-ghost use Rattle.std.specs.List.{slice_get};
 ghost use Rattle.shelf.specs.Kept.{kept};
 ghost use Rattle.shelf.specs.Meaning.{WellFormed, bundle_at, export_at};
 ghost use Rattle.shelf.specs.Plain.{bundle_meant, export_meant, meant};
 ghost use Rattle.shelf.specs.Refusal.{FillRefused};
 
 use crate::export::Export;
-use crate::limits::within_limits;
+use crate::lawful::within_limits;
 use crate::need::Need;
 use crate::refusal::FillRefusal;
 use crate::shelf::Shelf;
@@ -31,38 +30,31 @@ impl<'a> PlainShelf<'a> {
         PlainShelf { places: &[] }
     }
 
-    // These places in the place of those before, unless they break a limit: then nothing changes.
-    pub fn fill(&mut self, places: &'a [Option<PlainBundle<'a>>]) -> Result<(), FillRefusal>
+    // A shelf of these places, unless they break a limit.
+    pub fn new(places: &'a [Option<PlainBundle<'a>>]) -> Result<PlainShelf<'a>, FillRefusal>
         ensures granted { MatchResult result (λ _. WellFormed (meant places.now)) (λ e. FillRefused e (meant places.now)) }
-        ensures filled { self.new.places.now ≡ (if is_ok result then places.now else self.old.places.now) }
+        ensures filled { IfOk result (λ s. s.places.now ≡ places.now) }
     {
-        if !within_limits(places) {
-            return Err(FillRefusal::LimitBroken);
+        if within_limits(places) {
+            Ok(PlainShelf { places })
+        } else {
+            Err(FillRefusal::LimitBroken)
         }
-        self.places = places;
-        Ok(())
     }
 
     // The bundle at a place, if one is there.
     fn bundle(&self, place: usize) -> Option<PlainBundle<'a>>
         ensures { option_map bundle_meant result ≡ bundle_at (meant self.now.places.now) place }
     {
-        item(self.places, place)?
+        self.places.get(place).copied().flatten()
     }
 
     // Its export j, if there is one.
     fn plain_export(&self, place: usize, j: usize) -> Option<PlainExport<'a>>
         ensures { option_map export_meant result ≡ export_at (meant self.now.places.now) place j }
     {
-        item(self.bundle(place)?.exports, j)
+        self.bundle(place)?.exports.get(j).copied()
     }
-}
-
-// What stands at an index, if anything does.
-fn item<T: Copy>(items: &[T], at: usize) -> Option<T>
-    ensures { result ≡ slice_get items.now at }
-{
-    items.get(at).copied()
 }
 
 impl<'a> Shelf for PlainShelf<'a> {
@@ -99,10 +91,10 @@ impl<'a> Shelf for PlainShelf<'a> {
     }
 
     fn used(&self, place: usize, j: usize, k: usize) -> Option<&[u8]> {
-        item(self.plain_export(place, j)?.uses, k)
+        self.plain_export(place, j)?.uses.get(k).copied()
     }
 
     fn need(&self, place: usize, k: usize) -> Option<Need<'_>> {
-        item(self.bundle(place)?.needs, k)
+        self.bundle(place)?.needs.get(k).copied()
     }
 }

@@ -3,9 +3,9 @@ ghost use Rattle.std.specs.Prelude.{◌≡◌};
 ghost use Rattle.shelf.specs.Refusal.{hide_number};
 
 // Why a place is not hidden or shown.
-#[derive(Clone, Copy)]
+#[derive(Clone, Copy, PartialEq, Eq, Debug)]
 pub enum HideRefusal {
-    NoSuchPlace,
+    NoSuchPlace = 29,
 }
 
 impl HideRefusal {
@@ -13,14 +13,12 @@ impl HideRefusal {
     pub fn number(self) -> u8
         ensures { result ≡ hide_number self }
     {
-        match self {
-            HideRefusal::NoSuchPlace => 29,
-        }
+        self as u8
     }
 }
 
 // Why plain values make no shelf.
-#[derive(Clone, Copy)]
+#[derive(Clone, Copy, PartialEq, Eq, Debug)]
 pub enum FillRefusal {
     LimitBroken,
 }

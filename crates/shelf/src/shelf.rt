@@ -15,9 +15,6 @@ pub trait Shelf {
     // the places, each absent or a bundle
     ghost meaning: { Self → Meaning };
 
-    // every shelf keeps the limits
-    ghost formed: { (s : Self) → WellFormed (meaning s) };
-
     // How many places there are, absent ones included.
     fn count(&self) -> usize
         ensures { result ≡ length (meaning self.now) };
@@ -44,4 +41,7 @@ pub trait Shelf {
 
     fn need(&self, place: usize, k: usize) -> Option<Need<'_>>
         ensures { option_map need_of result ≡ need_at (meaning self.now) place k };
+
+    // every shelf keeps the limits
+    ghost formed: { (s : Self) → WellFormed (meaning s) };
 }

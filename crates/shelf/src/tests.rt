@@ -7,6 +7,7 @@ use crate::hide::Hide;
 use crate::lookup::{export_named, is_named, is_own_import};
 use crate::need::{Need, NeedKind, Resolution};
 use crate::plain::PlainShelf;
+use crate::refusal::{FillRefusal, HideRefusal};
 use crate::shelf::Shelf;
 use crate::values::{PlainBundle, PlainExport};
 use kinds::controller::ControllerNumber;
@@ -58,74 +59,11 @@ const BASE: PlainBundle<'static> = PlainBundle {
 
 const BASE_SECOND: &'static [Option<PlainBundle<'static>>] = &[None, Some(BASE)];
 
-// One import more than a bundle may have.
-const CROWDED: PlainBundle<'static> = PlainBundle {
-    needs: &[
-        NEEDS_NET,
-        NEEDS_TIME,
-        Need {
-            name: b"c",
-            ..NEEDS_NET
-        },
-        Need {
-            name: b"d",
-            ..NEEDS_NET
-        },
-        Need {
-            name: b"e",
-            ..NEEDS_NET
-        },
-        Need {
-            name: b"f",
-            ..NEEDS_NET
-        },
-        Need {
-            name: b"g",
-            ..NEEDS_NET
-        },
-        Need {
-            name: b"h",
-            ..NEEDS_NET
-        },
-        Need {
-            name: b"i",
-            ..NEEDS_NET
-        },
-        Need {
-            name: b"j",
-            ..NEEDS_NET
-        },
-        Need {
-            name: b"k",
-            ..NEEDS_NET
-        },
-        Need {
-            name: b"l",
-            ..NEEDS_NET
-        },
-        Need {
-            name: b"m",
-            ..NEEDS_NET
-        },
-        Need {
-            name: b"n",
-            ..NEEDS_NET
-        },
-        Need {
-            name: b"o",
-            ..NEEDS_NET
-        },
-        Need {
-            name: b"p",
-            ..NEEDS_NET
-        },
-        Need {
-            name: b"q",
-            ..NEEDS_NET
-        },
-    ],
-    ..BASE
-};
+// As many names as a bundle may have imports, and one more.
+const NAMES: [&'static [u8]; 17] = [
+    b"net", b"time", b"c", b"d", b"e", b"f", b"g", b"h", b"i", b"j", b"k", b"l", b"m", b"n", b"o",
+    b"p", b"q",
+];
 
 const TWICE: PlainBundle<'static> = PlainBundle {
     exports: &[LOG, NET, LOG],
@@ -133,8 +71,6 @@ const TWICE: PlainBundle<'static> = PlainBundle {
 };
 
 const TWICE_ALONE: &'static [Option<PlainBundle<'static>>] = &[Some(TWICE)];
-
-const CROWDED_ALONE: &'static [Option<PlainBundle<'static>>] = &[Some(CROWDED)];
 
 // The client at three shelves: its contract follows at each with no proof of its own.
 fn at_plain(shelf: &PlainShelf<'_>, place: usize, name: &[u8]) -> Option<usize>
@@ -156,9 +92,8 @@ fn under_two<S: Shelf>(shelf: &Hide<Hide<S>>, place: usize, name: &[u8]) -> Opti
 }
 
 #[test]
-fn clients_at_every_shelf(rt: HostRuntime) {
-    let mut plain = PlainShelf::empty();
-    assert!(rt; plain.fill(BASE_SECOND).is_ok());
+fn clients_at_every_shelf(rt: HostRuntime) -> Result<(), Fail> {
+    let plain = PlainShelf::new(BASE_SECOND)?;
     assert_eq!(rt; at_plain(&plain, 1, b"net"), Some(1));
     assert_eq!(rt; export_named(&&plain, 0, b"net"), None);
     assert!(rt; is_named(&Hide::new(&plain), 1, b"base"));
@@ -169,31 +104,38 @@ fn clients_at_every_shelf(rt: HostRuntime) {
     assert!(rt; plain.name(usize::MAX).is_none());
     assert!(rt; plain.count() == 2 && !plain.present(0) && plain.present(1));
     let mut lower = Hide::new(plain);
-    assert!(rt; lower.hide(0).is_ok());
+    lower.hide(0)?;
     assert_eq!(rt; under_one(&lower, 1, b"net"), Some(1));
     let mut upper = Hide::new(lower);
     assert_eq!(rt; under_two(&upper, 1, b"net"), Some(1));
-    assert!(rt; upper.hide(1).is_ok());
+    upper.hide(1)?;
     assert_eq!(rt; under_two(&upper, 1, b"net"), None);
     assert!(rt; upper.count() == 2 && !upper.present(1) && upper.version(1).is_none());
-    assert!(rt; upper.show(1).is_ok());
+    upper.show(1)?;
     assert_eq!(rt; under_two(&upper, 1, b"net"), Some(1));
+    Ok(())
 }
 
 #[test]
 fn what_is_refused(rt: HostRuntime) -> Result<(), Fail> {
-    let mut plain = PlainShelf::empty();
-    assert!(rt; plain.fill(TWICE_ALONE).is_err());
-    assert!(rt; plain.fill(CROWDED_ALONE).is_err());
-    assert_eq!(rt; plain.count(), 0);
-    let mut upper = Hide::new(plain);
-    assert!(rt; upper.hide(63).is_ok());
+    assert_eq!(rt;
+        PlainShelf::new(TWICE_ALONE).err(),
+        Some(FillRefusal::LimitBroken)
+    );
+    let needs = NAMES.map(|name| Need { name, ..NEEDS_NET });
+    let crowded = [Some(PlainBundle {
+        needs: &needs,
+        ..BASE
+    })];
+    assert_eq!(rt;
+        PlainShelf::new(&crowded).err(),
+        Some(FillRefusal::LimitBroken)
+    );
+    let mut upper = Hide::new(PlainShelf::empty());
+    assert_eq!(rt; upper.count(), 0);
+    upper.hide(63)?;
     assert!(rt; upper.is_hidden(63));
-    match upper.hide(64) {
-        Ok(()) => Err(Fail::new("64 is no place")),
-        Err(refusal) => {
-            assert_eq!(rt; refusal.number(), 29);
-            Ok(())
-        },
-    }
+    assert_eq!(rt; upper.hide(64), Err(HideRefusal::NoSuchPlace));
+    assert_eq!(rt; HideRefusal::NoSuchPlace.number(), 29);
+    Ok(())
 }

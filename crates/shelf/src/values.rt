@@ -4,14 +4,14 @@ use kinds::controller::ControllerNumber;
 use kinds::range::Range;
 use kinds::version::Version;
 
-#[derive(Clone, Copy)]
+#[derive(Clone, Copy, PartialEq, Eq, Debug, Default)]
 pub struct PlainExport<'a> {
     pub name: &'a [u8],
     pub version: Version,
     pub uses: &'a [&'a [u8]],
 }
 
-#[derive(Clone, Copy)]
+#[derive(Clone, Copy, PartialEq, Eq, Debug, Default)]
 pub struct PlainBundle<'a> {
     pub name: &'a [u8],
     pub version: Version,

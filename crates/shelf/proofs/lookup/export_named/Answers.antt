@@ -1,8 +1,13 @@
-use Rattle.std.proofs.Common.{arith}
-use Rattle.shelf.proofs.Exported.{found_nowhere}
+use Rattle.std.proofs.Common.{rules}
+use Rattle.std.proofs.lemmas.Iterator.{first_from_Range}
+use Rattle.shelf.specs.Looked.{ExportsAt, Only}
+use Rattle.shelf.proofs.Exported.{found}
 use Rattle.shelf.proofs.lookup.export_named.Goals as goal
 
 pub returns : goal.returns
 returns g c =
-    let shelf = c.args.shelf.now in
-    found_nowhere (g.S.Shelf.meaning shelf) _ _ (g.S.Shelf.formed shelf) (λ i lt. c.loop-j.invariant i (omega arith))
+    let m = g.S.Shelf.meaning c.args.shelf.now in
+    let place = c.args.place in
+    let name = c.args.name.now in
+    found m place name c.find.result (g.met.S.Shelf.formed c.args.shelf.now)
+    (first_from_Range _ _ _ c.find.result (Only m place name) (λ j. ExportsAt m place j name → ⊥) c.find.ensures.ran (λ j f k. search rules) (λ j f k. search rules))
