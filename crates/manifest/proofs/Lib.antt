@@ -7,15 +7,11 @@ pub mod ClauseValues
 pub mod Calm
 pub mod Lines
 pub mod Back
-mod Fews
-mod Spans
-mod Turns
 mod Gathers
-mod Entries
-mod Looks
-mod Judges
-mod HeaderLines
-mod Closes
+mod Stops
 mod Totals
-mod Walks
+mod Together
+mod Alls
+mod Strips
 mod Asks
+mod Looks

@@ -12,6 +12,7 @@ use Rattle.kinds.specs.Controller.{controller as controller_number, numbered as 
 use Rattle.kinds.specs.declared.range.Range.{Range}
 use Rattle.kinds.specs.declared.version.Version.{Version}
 use Rattle.kinds.specs.Number.{number, decimal as valued}
+use Rattle.kinds.specs.Range.{is_included, value_of}
 use Rattle.kinds.specs.RangeText.{opening, closing, range}
 use Rattle.kinds.specs.Version.{version_of, version as read_version}
 use Rattle.kinds.specs.Commas.{version-lacks, controller-lacks}
@@ -74,17 +75,17 @@ module _ {K : Type 0} (P : K → Type 0) (reads : List ℕ → Option K) (text :
       complete reads commaless (text floor) (AtLeast floor) (inl (record { value = floor; reading = back floor h; meaning = refl }))
   range_back (Between low high) h =
       complete reads commaless (range_text text (Between low high)) (Between low high) (inr (record {
-        opener = cond low.included 91 40;
-        floor_text = text low.value;
-        ceiling_text = text high.value;
-        closer = cond high.included 93 41;
+        opener = cond (is_included low) 91 40;
+        floor_text = text (value_of low);
+        ceiling_text = text (value_of high);
+        closer = cond (is_included high) 93 41;
         form = refl;
         floor = low;
         ceiling = high;
-        opens = opens_back low.included;
-        starts = back low.value h.0;
-        stops = back high.value h.1;
-        closes = closes_back high.included;
+        opens = opens_back (is_included low);
+        starts = back (value_of low) h.0;
+        stops = back (value_of high) h.1;
+        closes = closes_back (is_included high);
         meaning = refl;
       }))
 
@@ -120,10 +121,10 @@ module _ {K : Type 0} (P : K → Type 0) (text : K → List ℕ) (bytes : (k : K
   pub range-bytes : (r : Range K) → WritableRange P r → every in_value (range_text text r) ≡ true
   range-bytes (AtLeast floor) h = bytes floor h
   range-bytes (Between floor top) h =
-      let end = cond top.included 93 41 ∷ [] in
-      let high = text top.value in
-      let low = text floor.value in
-      opener-bytes floor.included (low ++ (44 ∷ (high ++ end))) (every_append in_value low (44 ∷ (high ++ end)) (bytes floor.value h.0) (every_append in_value high end (bytes top.value h.1) (closer-bytes top.included)))
+      let end = cond (is_included top) 93 41 ∷ [] in
+      let high = text (value_of top) in
+      let low = text (value_of floor) in
+      opener-bytes (is_included floor) (low ++ (44 ∷ (high ++ end))) (every_append in_value low (44 ∷ (high ++ end)) (bytes (value_of floor) h.0) (every_append in_value high end (bytes (value_of top) h.1) (closer-bytes (is_included top))))
 
 pub value-lacks : (text : List ℕ) → every in_value text ≡ true → lacks 34 text ≡ true
 value-lacks text h = every_weaker in_value (λ x. not (eqb x 34)) unquoted text h

@@ -1,7 +1,7 @@
 -- How long the pieces of a text are together.
-use Rattle.std.proofs.Common.{◌≡◌, ℕ, suc, ◌+◌, ◌<◌, Bool, true, false, cond, not, ◌&&◌, eqb, List, [], ◌∷◌, length, refl, arith}
+use Rattle.std.proofs.Common.{◌≡◌, ℕ, suc, ◌+◌, ◌<◌, ◌≤◌, Bool, true, false, cond, not, ◌&&◌, eqb, List, [], ◌∷◌, length, refl, ap, arith}
 use Rattle.text.proofs.Splits.{some-piece}
-use Rattle.text.specs.Splitting.{on_first, split, turned}
+use Rattle.text.specs.Splitting.{on_first, parts, split, turned}
 
 -- all bytes, with one more for each piece
 abbrev pub total : List (List ℕ) → ℕ
@@ -20,3 +20,7 @@ total-step quotes sep x xs false now ih nz = omega (arith, ih now, first-total x
 pub total-split : (quotes : Bool) (sep : ℕ) (inside : Bool) (xs : List ℕ) → total (split quotes sep inside xs) ≡ length xs + 1
 total-split quotes sep inside [] = refl
 total-split quotes sep inside (x ∷ xs) = total-step quotes sep x xs (eqb x sep && not inside) (turned quotes inside x) (λ q. total-split quotes sep q xs) (λ q. some-piece quotes sep q xs)
+
+-- the lines of a text that is short enough
+pub fits_lines : (text : List ℕ) (ls : List (List ℕ)) → ls ≡ parts 10 text → length text ≤ 65536 → 0 + total ls ≤ 65537
+fits_lines text ls e h = omega (arith, ap total e, total-split false 10 false text)

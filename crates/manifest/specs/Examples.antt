@@ -1,5 +1,6 @@
 -- Short directories, and what they read as.
-use Rattle.std.specs.Prelude.{◌≡◌, ℕ, zero, suc, true, false, List, [], ◌∷◌, ◌++◌, replicate, Ok, codes, decimal}
+use Rattle.std.specs.Prelude.{◌≡◌, ℕ, zero, suc, List, [], ◌∷◌, ◌++◌, replicate, Ok, codes, decimal}
+use Rattle.kinds.specs.declared.range.End.TheVariants.{Included, Excluded}
 use Rattle.kinds.specs.declared.version.Version.{Version}
 use Rattle.kinds.specs.declared.range.Range.TheVariants.{AtLeast, Between}
 use Rattle.shelf.specs.Meaning.{Bundle}
@@ -31,7 +32,7 @@ lamp =
     record {
       name = codes "org.lamp";
       version = numbered 1 2 3;
-      controllers = Between (record { value = record { 0 = 3 }; included = true }) (record { value = record { 0 = 7 }; included = false });
+      controllers = Between (Included (record { 0 = 3 })) (Excluded (record { 0 = 7 }));
       exports =
           record { name = codes "org.lamp"; version = numbered 1 2 0; uses = codes "org.units" ∷ (codes "org.b" ∷ []) }
           ∷ (record { name = codes "org.x"; version = no_version; uses = [] } ∷ []);
@@ -39,14 +40,14 @@ lamp =
           record {
             kind = Import;
             name = codes "org.units";
-            range = Between (record { value = numbered 1 0 0; included = false }) (record { value = numbered 2 0 7; included = true });
+            range = Between (Excluded (numbered 1 0 0)) (Included (numbered 2 0 7));
             resolution = Optional;
           }
           ∷ (record { kind = Import; name = codes "c"; range = all_versions; resolution = Mandatory }
           ∷ (record {
             kind = Require Reexport;
             name = codes "base";
-            range = Between (record { value = numbered 1 0 0; included = true }) (record { value = numbered 2 0 0; included = false });
+            range = Between (Included (numbered 1 0 0)) (Excluded (numbered 2 0 0));
             resolution = Mandatory;
           }
           ∷ []));
@@ -61,14 +62,14 @@ largest =
     record {
       name = replicate 48 45;
       version = numbered 65535 65535 65535;
-      controllers = Between (record { value = record { 0 = 0 }; included = false }) (record { value = record { 0 = 65535 }; included = true });
+      controllers = Between (Excluded (record { 0 = 0 })) (Included (record { 0 = 65535 }));
       exports = record { name = replicate 48 95; version = numbered 0 0 65535; uses = replicate 8 (codes "a.b") } ∷ [];
       needs =
           record { kind = Import; name = codes "a.b.c"; range = AtLeast (numbered 0 65535 0); resolution = Mandatory }
           ∷ (record {
             kind = Require Private;
             name = codes "a.b.c";
-            range = Between (record { value = numbered 7 0 0; included = false }) (record { value = numbered 2 0 0; included = false });
+            range = Between (Excluded (numbered 7 0 0)) (Excluded (numbered 2 0 0));
             resolution = Optional;
           }
           ∷ []);

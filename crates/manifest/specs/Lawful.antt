@@ -16,6 +16,7 @@ use Rattle.kinds.specs.declared.version.Version.{Version}
 use Rattle.kinds.specs.Number.{decimal, number}
 use Rattle.kinds.specs.declared.range.Range.TheVariants.{AtLeast}
 use Rattle.kinds.specs.Controller.{controller as controller_number, numbered as controller_of}
+use Rattle.kinds.specs.Range.{value_of}
 use Rattle.kinds.specs.RangeText.{end_of, floor_of, ceiling_of, between, range}
 use Rattle.kinds.specs.Version.{front, closes, numbered, version as read_version}
 use Rattle.shelf.specs.Meaning.{Name, Export, Need, Bundle, bound, is_import, FewExports, FewNeeds}
@@ -65,12 +66,13 @@ controller-small text = if_mapped WritableController (number text) controller_of
 
 module _ {K : Type 0} (P : K → Type 0) where
   abbrev EndHolds : End K → Type 0
-  EndHolds e = P e.value
+  EndHolds e = P (value_of e)
 
   end_holds : (included : Option Bool) (value : Option K) → If value P → If (end_of included value) EndHolds
   end_holds None value h = tt
   end_holds (Some i) None h = tt
-  end_holds (Some i) (Some v) h = h
+  end_holds (Some true) (Some v) h = h
+  end_holds (Some false) (Some v) h = h
 
   between-holds : (floor ceiling : Option (End K)) → If floor EndHolds → If ceiling EndHolds → If (between floor ceiling) (WritableRange P)
   between-holds None ceiling h k = tt

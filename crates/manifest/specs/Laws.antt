@@ -5,6 +5,7 @@ use Rattle.kinds.specs.declared.controller.ControllerNumber.{ControllerNumber}
 use Rattle.kinds.specs.declared.range.Range.{Range}
 use Rattle.kinds.specs.declared.range.Range.TheVariants.{AtLeast, Between}
 use Rattle.kinds.specs.declared.version.Version.{Version}
+use Rattle.kinds.specs.Range.{value_of}
 use Rattle.shelf.specs.Meaning.{Name, Export, Need, Bundle, FewItems, WellFormed}
 use Rattle.manifest.specs.declared.header.Grammar.{Grammar}
 use Rattle.manifest.specs.Questions.{FirstNo}
@@ -26,7 +27,7 @@ WritableController c = c.0 < 65536
 
 abbrev pub WritableRange : {K : Type 0} → (K → Type 0) → Range K → Type 0
 WritableRange P (AtLeast floor) = P floor
-WritableRange P (Between floor ceiling) = P floor.value × P ceiling.value
+WritableRange P (Between floor ceiling) = P (value_of floor) × P (value_of ceiling)
 
 abbrev pub WritableExport : Export → Type 0
 WritableExport e = WritableName e.name × WritableVersion e.version × AllByRecursion WritableName e.uses

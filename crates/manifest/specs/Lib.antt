@@ -14,11 +14,11 @@ pub mod Once
 pub mod Lawful
 pub mod Limits
 pub mod Numbers
-pub mod Held
-pub mod Gathering
-pub mod Spans
-pub mod Parts
+pub mod Words
 pub mod Index
+pub mod Parts
+pub mod Together
+pub mod Slots
 pub mod Drafts
 pub mod States
 pub mod Stages

@@ -14,8 +14,8 @@ or_empty (Ok bs) = bs
 or_empty (Err e) = []
 
 abbrev pub meaning_of : ManifestShelf → Meaning
-meaning_of s = map Some (bundles_in s.text.now s.places)
+meaning_of s = map Some (bundles_in s.bundles)
 
 -- every opened directory keeps the limits of a shelf
 pub shelf-formed : (s : ManifestShelf) → WellFormed (meaning_of s)
-shelf-formed s = kept (meaning_of s) (∥∥₁_map s.lawful (λ e. reads-formed s.text.now (bundles_in s.text.now s.places) (sym e)))
+shelf-formed s = kept (meaning_of s) (∥∥₁_map s.lawful (λ e. reads-formed s.text.now (bundles_in s.bundles) (sym e)))

@@ -1,7 +1,8 @@
--- The values of headers as they are gathered piece by piece: what does not read (`None`), what breaks a limit (`Some None`).
-use Rattle.std.specs.Prelude.{ℕ, Bool, cond, ◌&&◌, List, [], ◌∷◌, length, Some, None, Option, nat_le}
-use Rattle.std.specs.Option.{option_map, unwrap_or}
-use Rattle.shelf.specs.Meaning.{Name, Export, Need, bound}
+-- The clauses of a value on the way to what the header says: read, and kept where they are within the limits.
+use Rattle.std.specs.Prelude.{ℕ, ◌+◌, Bool, cond, ◌&&◌, List, length, Some, None, Ok, Option, Result, nat_le}
+use Rattle.std.specs.Option.{unwrap_or}
+use Rattle.text.specs.Bytes.{equal}
+use Rattle.shelf.specs.Meaning.{Name, Need, bound}
 use Rattle.shelf.specs.declared.need.NeedKind.{NeedKind}
 use Rattle.shelf.specs.declared.need.NeedKind.TheVariants.{Import, Require}
 use Rattle.shelf.specs.declared.need.Visibility.{Visibility}
@@ -9,24 +10,9 @@ use Rattle.shelf.specs.declared.need.Visibility.TheVariants.{Private}
 use Rattle.manifest.specs.declared.header.Grammar.{Grammar}
 use Rattle.manifest.specs.declared.header.Grammar.TheVariants.{Exports, Imports, Requires}
 use Rattle.manifest.specs.Clauses.{RawClause, clause}
-use Rattle.manifest.specs.Held.{put}
 use Rattle.manifest.specs.Names.{all}
-use Rattle.manifest.specs.Values.{export_of, need_of, short_name, small_export}
-
--- kept if it passes
-abbrev pub kept : {X : Type 0} → (X → Bool) → X → Option X
-kept p x = cond (p x) (Some x) None
-
--- one piece more, of at most n
-abbrev pub added : {X : Type 0} → ℕ → Option (Option (List X)) → Option (Option X) → Option (Option (List X))
-added n None x = None
-added n (Some xs) None = None
-added n (Some xs) (Some None) = Some None
-added n (Some xs) (Some (Some x)) = Some (put n xs x)
-
-abbrev pub gather : {X : Type 0} → ℕ → (List ℕ → Option (Option X)) → Option (Option (List X)) → List (List ℕ) → Option (Option (List X))
-gather n f acc [] = acc
-gather n f acc (p ∷ ps) = gather n f (added n acc (f p)) ps
+use Rattle.manifest.specs.Questions.{asks, gets}
+use Rattle.manifest.specs.Values.{need_of, short_name}
 
 -- what a clause reads as
 abbrev pub read_by : {X : Type 0} → Grammar → (RawClause → Option X) → List ℕ → Option X
@@ -43,15 +29,27 @@ need_by g c = need_of (kind_by g c.visibility) c
 abbrev pub short_need : Need → Bool
 short_need n = short_name n.name
 
+-- what was read is kept where it is small: the questions 8 and 9 of one clause
+abbrev pub kept : {X : Type 0} → (X → Bool) → Option X → Result X ℕ
+kept small read = gets 8 read (λ x. asks 9 (small x) (Ok x))
+
 -- names between commas, at most 8
 abbrev pub few_names : List Name → Bool
 few_names ns = nat_le (length ns) 8 && all short_name ns
 
-abbrev pub name_piece : List ℕ → Option (Option Name)
-name_piece text = Some (kept short_name text)
+-- at most n with the others, and each small
+abbrev pub few : {X : Type 0} → ℕ → (X → Bool) → ℕ → List X → Bool
+few n small others xs = nat_le (others + length xs) n && all small xs
 
-unfoldable pub export_piece : List ℕ → Option (Option Export)
-export_piece text = option_map (kept small_export) (read_by Exports export_of text)
+-- kept where it passes
+abbrev pub within : {X : Type 0} → (X → Bool) → X → Option X
+within small x = cond (small x) (Some x) None
 
-unfoldable pub need_piece : Grammar → List ℕ → Option (Option Need)
-need_piece g text = option_map (kept short_need) (read_by g (need_by g) text)
+-- what a text reads as; what a missing one stands for
+abbrev pub read_or : {X : Type 0} → X → (List ℕ → Option X) → Option (List ℕ) → Option X
+read_or missing reads None = Some missing
+read_or missing reads (Some text) = reads text
+
+-- what the first of two words stands for, or the second
+abbrev pub either_of : {X : Type 0} → List ℕ → List ℕ → X → List ℕ → X → Option X
+either_of word first x second y = cond (equal word first) (Some x) (cond (equal word second) (Some y) None)

@@ -4,6 +4,7 @@ use Rattle.kinds.specs.declared.controller.ControllerNumber.{ControllerNumber}
 use Rattle.kinds.specs.declared.range.Range.TheVariants.{AtLeast, Between}
 use Rattle.kinds.specs.declared.range.Range.{Range}
 use Rattle.kinds.specs.declared.version.Version.{Version}
+use Rattle.kinds.specs.Range.{is_included, value_of}
 use Rattle.shelf.specs.Meaning.{Name, Export, Need, Bundle, is_import}
 use Rattle.shelf.specs.declared.need.NeedKind.{NeedKind}
 use Rattle.shelf.specs.declared.need.NeedKind.TheVariants.{Import, Require}
@@ -24,7 +25,7 @@ controller_text c = decimal c.0
 abbrev pub range_text : {K : Type 0} → (K → List ℕ) → Range K → List ℕ
 range_text text (AtLeast floor) = text floor
 range_text text (Between floor ceiling) =
-    cond floor.included 91 40 ∷ (text floor.value ++ (44 ∷ (text ceiling.value ++ (cond ceiling.included 93 41 ∷ []))))
+    cond (is_included floor) 91 40 ∷ (text (value_of floor) ++ (44 ∷ (text (value_of ceiling) ++ (cond (is_included ceiling) 93 41 ∷ []))))
 
 -- Clauses, each with its parameters in one order.
 abbrev pub uses_parameter : List Name → List Parameter

@@ -11,8 +11,5 @@ use crate::refusal::Refusal;
 pub fn check(text: &[u8]) -> Result<(), Refusal>
     ensures { no_in (result_map_both (λ u. u) first_no result) ≡ no_in (reading text.now) }
 {
-    match read_directory(text) {
-        Ok(_) => Ok(()),
-        Err(refusal) => Err(refusal),
-    }
+    read_directory(text).map(|_| ())
 }

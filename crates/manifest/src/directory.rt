@@ -1,21 +1,18 @@
 // A whole directory, read into the index.
-ghost use Rattle.std.specs.Prelude.{◌≡◌, ◌≤◌, false, length};
+ghost use Rattle.std.specs.Prelude.{◌≡◌, ◌≤◌, length};
 ghost use Rattle.std.specs.Result.{result_map_both};
 ghost use Rattle.text.specs.Splitting.{parts};
 ghost use Rattle.manifest.specs.Index.{bundles_in};
 ghost use Rattle.manifest.specs.Numbers.{first_no};
 ghost use Rattle.manifest.specs.Reading.{reading, start, stray_line, walk};
-ghost use Rattle.manifest.specs.Spans.{span_of};
 
 use crate::chars::{are_printable, is_closed};
-use crate::cuts::Cuts;
-use crate::draft::no_headers;
-use crate::entry::{BundleEntry, no_bundle};
-use crate::few::Few;
+use crate::entry::BundleEntry;
 use crate::question::Question;
+use crate::reader::Reader;
 use crate::refusal::Refusal;
-use crate::span::{Span, bytes};
-use crate::steps::line_step;
+use arrayvec::ArrayVec;
+use shelf::limits::PLACES;
 use text::pieces::Pieces;
 
 // A longer text is not looked at.
@@ -26,69 +23,46 @@ fn stray_line(text: &[u8]) -> Option<u32>
     requires { length text.now ≤ 65536 }
     ensures { result ≡ stray_line 0 (parts 10 text.now) }
 {
-    let mut lines = Pieces::plain(text, b'\n');
-    let mut at = 0;
-    while let Some(line) = lines.next() {
+    let mut offset = 0;
+    for line in Pieces::plain(text, b'\n') {
         if !are_printable(line) {
-            return Some(at as u32);
+            return Some(offset);
         }
-        at += line.len() + 1;
+        offset += line.len() as u32 + 1;
     }
     None
 }
 
 // Line by line, from the first.
-fn read_lines(text: &[u8], all: Span) -> Result<Few<BundleEntry, 64>, Refusal>
+fn read_lines<'a>(text: &'a [u8]) -> Result<ArrayVec<BundleEntry<'a>, PLACES>, Refusal>
     requires { length text.now ≤ 65536 }
-    ensures { result_map_both (bundles_in text.now) first_no result ≡ walk 0 start (parts 10 (span_of text.now all)) }
+    ensures { result_map_both bundles_in first_no result ≡ walk 0 start (parts 10 text.now) }
 {
-    let mut lines = Cuts::of(all, b'\n', false);
-    let mut places = Few::new(no_bundle());
-    let mut draft = no_headers();
-    let mut at = 0;
-    while let Some(line) = lines.next(text) {
-        if let Err(question) = line_step(text, &mut places, &mut draft, line) {
-            return Err(Refusal {
-                question,
-                offset: at as u32,
-            });
-        }
-        at += bytes(text, line).len() + 1;
+    let mut reader = Reader::default();
+    let mut offset = 0;
+    for line in Pieces::plain(text, b'\n') {
+        reader.line(line).map_err(|question| question.at(offset))?;
+        offset += line.len() as u32 + 1;
     }
-    Ok(places)
+    Ok(reader.bundles)
 }
 
 // The bundles, or the first question that is answered no.
-pub fn read_directory(text: &[u8]) -> Result<Few<BundleEntry, 64>, Refusal>
-    ensures { result_map_both (bundles_in text.now) first_no result ≡ reading text.now }
+#[tactic(auto, unfolding(crate::specs::Reading::reading))]
+pub fn read_directory<'a>(text: &'a [u8]) -> Result<ArrayVec<BundleEntry<'a>, PLACES>, Refusal>
+    ensures { result_map_both bundles_in first_no result ≡ reading text.now }
 {
-    let len = text.len();
-    if len > LONGEST {
-        return Err(Refusal {
-            question: Question::TextTooLong,
-            offset: 0,
-        });
+    if text.len() > LONGEST {
+        return Err(Question::TextTooLong.at(0));
     }
     if let Some(offset) = stray_line(text) {
-        return Err(Refusal {
-            question: Question::StrayByte,
-            offset,
-        });
+        return Err(Question::StrayByte.at(offset));
     }
-    if len == 0 {
-        return Ok(Few::new(no_bundle()));
+    if text.is_empty() {
+        return Ok(ArrayVec::new());
     }
     if !is_closed(text) {
-        return Err(Refusal {
-            question: Question::NotClosed,
-            offset: len as u32,
-        });
+        return Err(Question::NotClosed.at(text.len() as u32));
     }
-    read_lines(
-        text,
-        Span {
-            start: 0,
-            len: len as u32 - 1,
-        },
-    )
+    read_lines(&text[..text.len() - 1])
 }

@@ -1,35 +1,39 @@
 // The headers so far of the manifest that is open.
-ghost use Rattle.std.specs.Prelude.{◌≡◌, ℕ, List};
-ghost use Rattle.manifest.specs.Drafts.{headers_in};
-ghost use Rattle.manifest.specs.Headers.{no_headers};
+ghost use Rattle.std.specs.Prelude.{◌≡◌, ◌+◌, ◌≤◌, None};
+ghost use Rattle.manifest.specs.Together.{given};
 
-use crate::entry::{ExportEntry, NeedEntry};
-use crate::few::Few;
-use crate::span::Span;
+use crate::entry::ExportEntry;
+use arrayvec::ArrayVec;
 use kinds::controller::ControllerNumber;
 use kinds::range::Range;
 use kinds::version::Version;
+use shelf::limits::{EXPORTS, NEEDS};
+use shelf::need::Need;
 
-// Each known header if it was there; `required` is what Require-Bundle gave.
-#[derive(Drop, Clone, Copy)]
-pub struct Draft {
-    pub name: Option<Span>,
+// Each known header if it was there; `required` is what Require-Bundle gave. A bundle has room for both kinds of needs.
+#[derive(Drop)]
+pub struct Draft<'a> {
+    pub name: Option<&'a [u8]>,
     pub version: Option<Version>,
     pub controllers: Option<Range<ControllerNumber>>,
-    pub exports: Option<Few<ExportEntry, 16>>,
-    pub imports: Option<Few<NeedEntry, 16>>,
-    pub required: Option<Few<NeedEntry, 16>>,
+    pub exports: Option<ArrayVec<ExportEntry<'a>, EXPORTS>>,
+    pub imports: Option<ArrayVec<Need<'a>, NEEDS>>,
+    pub required: Option<ArrayVec<Need<'a>, NEEDS>>,
+    ghost few: { given imports + given required ≤ 16 },
 }
 
-pub fn no_headers() -> Draft
-    ensures { (t : List ℕ) → headers_in t result ≡ no_headers }
-{
-    Draft {
-        name: None,
-        version: None,
-        controllers: None,
-        exports: None,
-        imports: None,
-        required: None,
+// Written out, since a struct with a ghost field has no derived `Default`.
+impl<'a> Default for Draft<'a> {
+    ghost is_default = { λ d. (d.name ≡ None) × (d.version ≡ None) × (d.controllers ≡ None) × (d.exports ≡ None) × (d.imports ≡ None) × (d.required ≡ None) };
+
+    fn default() -> Draft<'a> {
+        Draft {
+            name: None,
+            version: None,
+            controllers: None,
+            exports: None,
+            imports: None,
+            required: None,
+        }
     }
 }

@@ -1,7 +1,7 @@
 // The headers of a manifest.
 
-// The known headers, and all others together.
-#[derive(Clone, Copy)]
+// The known headers, and all others together: a line of another header is read too, and says nothing.
+#[derive(Clone, Copy, Debug, PartialEq, Eq)]
 pub enum Header {
     SymbolicName,
     BundleVersion,

@@ -1,127 +1,87 @@
 // One header more of the manifest that is open.
-ghost use Rattle.std.specs.Prelude.{◌≡◌, ℕ, ◌≤◌, List, length};
-ghost use Rattle.std.specs.Option.{option_map as mapped_some};
+ghost use Rattle.std.specs.Prelude.{◌≡◌};
 ghost use Rattle.std.specs.Result.{result_map_both};
-ghost use Rattle.manifest.specs.declared.header.Header.TheVariants.{SymbolicName, BundleVersion, Controller, ExportPackage, ImportPackage, RequireBundle};
 ghost use Rattle.manifest.specs.Drafts.{headers_in};
-ghost use Rattle.manifest.specs.Headers.{count, header_step, with_header};
-ghost use Rattle.manifest.specs.Index.{needs_in};
+ghost use Rattle.manifest.specs.Headers.{header_step, with_header};
 ghost use Rattle.manifest.specs.Numbers.{number_of};
-ghost use Rattle.manifest.specs.Spans.{span_of};
+ghost use Rattle.manifest.specs.Slots.{Taken};
+ghost use Rattle.manifest.specs.Together.{given};
+ghost use Rattle.manifest.specs.Values.{controllers_in, version_in};
 
 use crate::draft::Draft;
-use crate::entry::NeedEntry;
-use crate::few::Few;
 use crate::header::{Grammar, Header};
 use crate::line::header_line;
 use crate::question::Question;
-use crate::span::{Span, bytes};
-use crate::values::{bundle_version, controllers, exports_of, needs_of, symbolic_name};
+use crate::texts::unquoted_value;
+use crate::values::{exports_of, needs_of, symbolic_name};
+use arrayvec::ArrayVec;
+use shelf::limits::NEEDS;
+use shelf::need::Need;
 
-fn take_name(text: &[u8], draft: &mut Draft, value: Span) -> Result<(), Question>
-    ensures { result_map_both (λ _. headers_in text.now draft.new) number_of result ≡ with_header (headers_in text.now draft.old) SymbolicName (span_of text.now value) }
+// The value of a header that is new to its manifest; where it is there already, nothing is read.
+fn once<T: Drop, F: FnOnce() -> Result<T, Question>>(
+    slot: &mut Option<T>,
+    read: F,
+) -> Result<(), Question>
+    requires { F.IsAlwaysCallable read }
+    ensures { Taken (F.post read) slot.old slot.new result }
 {
-    if draft.name.is_some() {
+    if slot.is_some() {
         return Err(Question::HeaderTwice);
     }
-    let name = symbolic_name(text, value)?;
-    draft.name = Some(name);
-    Ok(())
-}
-
-fn take_version(text: &[u8], draft: &mut Draft, value: Span) -> Result<(), Question>
-    ensures { result_map_both (λ _. headers_in text.now draft.new) number_of result ≡ with_header (headers_in text.now draft.old) BundleVersion (span_of text.now value) }
-{
-    if draft.version.is_some() {
-        return Err(Question::HeaderTwice);
-    }
-    let version = bundle_version(bytes(text, value))?;
-    draft.version = Some(version);
-    Ok(())
-}
-
-fn take_controllers(text: &[u8], draft: &mut Draft, value: Span) -> Result<(), Question>
-    ensures { result_map_both (λ _. headers_in text.now draft.new) number_of result ≡ with_header (headers_in text.now draft.old) Controller (span_of text.now value) }
-{
-    if draft.controllers.is_some() {
-        return Err(Question::HeaderTwice);
-    }
-    let range = controllers(bytes(text, value))?;
-    draft.controllers = Some(range);
-    Ok(())
-}
-
-fn take_exports(text: &[u8], draft: &mut Draft, value: Span) -> Result<(), Question>
-    requires { length text.now ≤ 65536 }
-    ensures { result_map_both (λ _. headers_in text.now draft.new) number_of result ≡ with_header (headers_in text.now draft.old) ExportPackage (span_of text.now value) }
-{
-    if draft.exports.is_some() {
-        return Err(Question::HeaderTwice);
-    }
-    let exports = exports_of(text, value)?;
-    draft.exports = Some(exports);
+    *slot = Some(read()?);
     Ok(())
 }
 
 // How many needs a header has given.
-fn how_many(given: &Option<Few<NeedEntry, 16>>) -> usize
-    ensures value { (t : List ℕ) → result ≡ count (mapped_some (needs_in t) given.now) }
-    ensures most { result ≤ 16 }
+fn how_many(needs: &Option<ArrayVec<Need<'_>, NEEDS>>) -> usize
+    ensures { result ≡ given needs.now }
 {
-    match given {
-        None => 0,
-        Some(needs) => needs.len(),
-    }
+    needs.as_ref().map_or(0, |needs| needs.len())
 }
 
-fn take_imports(text: &[u8], draft: &mut Draft, value: Span) -> Result<(), Question>
-    requires { length text.now ≤ 65536 }
-    ensures { result_map_both (λ _. headers_in text.now draft.new) number_of result ≡ with_header (headers_in text.now draft.old) ImportPackage (span_of text.now value) }
-{
-    if draft.imports.is_some() {
-        return Err(Question::HeaderTwice);
-    }
-    let others = how_many(&draft.required);
-    let needs = needs_of(text, value, Grammar::Imports, others)?;
-    draft.imports = Some(needs);
-    Ok(())
-}
-
-fn take_required(text: &[u8], draft: &mut Draft, value: Span) -> Result<(), Question>
-    requires { length text.now ≤ 65536 }
-    ensures { result_map_both (λ _. headers_in text.now draft.new) number_of result ≡ with_header (headers_in text.now draft.old) RequireBundle (span_of text.now value) }
-{
-    if draft.required.is_some() {
-        return Err(Question::HeaderTwice);
-    }
-    let others = how_many(&draft.imports);
-    let needs = needs_of(text, value, Grammar::Requires, others)?;
-    draft.required = Some(needs);
-    Ok(())
-}
-
-fn with_header(text: &[u8], draft: &mut Draft, header: Header, value: Span) -> Result<(), Question>
-    requires { length text.now ≤ 65536 }
-    ensures { result_map_both (λ _. headers_in text.now draft.new) number_of result ≡ with_header (headers_in text.now draft.old) header (span_of text.now value) }
+// The draft with what one header says. Two closures have a clause, since one generic function reads for both.
+#[tactic(auto, using(crate::proofs::Together::read_few))]
+fn with_header<'a>(draft: &mut Draft<'a>, header: Header, value: &'a [u8]) -> Result<(), Question>
+    ensures { result_map_both (λ _. headers_in draft.new) number_of result ≡ with_header (headers_in draft.old) header value.now }
 {
     match header {
-        Header::SymbolicName => take_name(text, draft, value),
-        Header::BundleVersion => take_version(text, draft, value),
-        Header::Controller => take_controllers(text, draft, value),
-        Header::ExportPackage => take_exports(text, draft, value),
-        Header::ImportPackage => take_imports(text, draft, value),
-        Header::RequireBundle => take_required(text, draft, value),
+        Header::SymbolicName => once(&mut draft.name, || symbolic_name(value)),
+        Header::BundleVersion => once(
+            &mut draft.version,
+            ||
+                ensures { result_map_both (λ v. v) number_of result ≡ version_in value.entry.now }
+            { unquoted_value(value) },
+        ),
+        Header::Controller => once(
+            &mut draft.controllers,
+            ||
+                ensures { result_map_both (λ c. c) number_of result ≡ controllers_in value.entry.now }
+            { unquoted_value(value) },
+        ),
+        Header::ExportPackage => once(&mut draft.exports, || exports_of(value)),
+        Header::ImportPackage => {
+            let required = how_many(&draft.required);
+            once(
+                &mut draft.imports,
+                || needs_of(value, Grammar::Imports, required),
+            )
+        }
+        Header::RequireBundle => {
+            let imported = how_many(&draft.imports);
+            once(
+                &mut draft.required,
+                || needs_of(value, Grammar::Requires, imported),
+            )
+        }
         Header::Unknown => Ok(()),
     }
 }
 
 // The headers after a line.
-pub fn header_step(text: &[u8], draft: &mut Draft, line: Span) -> Result<(), Question>
-    requires { length text.now ≤ 65536 }
-    ensures { result_map_both (λ _. headers_in text.now draft.new) number_of result ≡ header_step (headers_in text.now draft.old) (span_of text.now line) }
+pub fn header_step<'a>(draft: &mut Draft<'a>, line: &'a [u8]) -> Result<(), Question>
+    ensures { result_map_both (λ _. headers_in draft.new) number_of result ≡ header_step (headers_in draft.old) line.now }
 {
-    match header_line(text, line) {
-        None => Err(Question::NotAHeader),
-        Some(entry) => with_header(text, draft, entry.header, entry.value),
-    }
+    let entry = header_line(line).ok_or(Question::NotAHeader)?;
+    with_header(draft, entry.header, entry.value)
 }

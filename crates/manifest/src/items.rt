@@ -1,25 +1,27 @@
-// One clause as an entry of the index.
-ghost use Rattle.std.specs.Prelude.{◌≡◌, ◌≤◌, [], length, Some};
+// What a clause is read as.
+ghost use Rattle.std.specs.Prelude.{◌≡◌, Bool, [], map, Option};
 ghost use Rattle.std.specs.Option.{option_map, unwrap_or};
+ghost use Rattle.std.specs.Result.{result_map_both};
 ghost use Rattle.text.specs.Splitting.{parts};
-ghost use Rattle.shelf.specs.declared.need.Resolution.TheVariants.{Mandatory};
-ghost use Rattle.manifest.specs.Index.{export_in, names_got, need_in};
-ghost use Rattle.manifest.specs.Parts.{names_in};
-ghost use Rattle.manifest.specs.Spans.{span_of};
-ghost use Rattle.manifest.specs.Stages.{export_piece, few_names, kept, kind_by, need_piece};
-ghost use Rattle.manifest.specs.Values.{range_or, short_name, version_or};
+ghost use Rattle.shelf.specs.Lent.{need_of};
+ghost use Rattle.shelf.specs.Meaning.{Name, Export, Need as NeedSaid};
+ghost use Rattle.manifest.specs.declared.header.Grammar.{Grammar};
+ghost use Rattle.manifest.specs.Clauses.{RawClause};
+ghost use Rattle.manifest.specs.Index.{export_in};
+ghost use Rattle.manifest.specs.Numbers.{number_of};
+ghost use Rattle.manifest.specs.Parts.{names_in, raw_in};
+ghost use Rattle.manifest.specs.Stages.{few_names, kept, kind_by, need_by, short_need, within};
+ghost use Rattle.manifest.specs.Values.{export_of, short_name, small_export};
 
 use crate::clause::RawEntry;
-use crate::clauses::clause;
-use crate::cuts::Cuts;
-use crate::entry::{ExportEntry, NeedEntry, no_span};
-use crate::gathered::Gathered;
+use crate::entry::ExportEntry;
 use crate::header::Grammar;
-use crate::span::{Span, bytes};
-use kinds::kind::Readable;
-use kinds::range::Range;
-use kinds::version::Version;
-use shelf::need::{NeedKind, Resolution, Visibility};
+use crate::question::Question;
+use crate::texts::read_or_missing;
+use arrayvec::ArrayVec;
+use shelf::limits::USES;
+use shelf::need::{Need, NeedKind, Visibility};
+use text::pieces::Pieces;
 
 // No name has more bytes.
 const LONGEST: usize = 48;
@@ -30,111 +32,113 @@ pub fn is_short(name: &[u8]) -> bool
     name.len() <= LONGEST
 }
 
-// The version that is given, if it reads; 0.0.0 where none is.
-fn version_or(text: &[u8], given: Option<Span>) -> Option<Version>
-    ensures { result ≡ version_or (option_map (span_of text.now) given) }
-{
-    match given {
-        None => Some(Version::missing()),
-        Some(version) => Version::read(bytes(text, version)),
+// What each clause of a header's value is read as: an export or a need.
+pub trait Entry<'a>: Default + Drop {
+    ghost Said: { Type 0 };
+
+    ghost said: { Self → Said };
+
+    ghost called: { Said → Name };
+
+    // what a clause reads as, if it reads at all
+    ghost reads: { Grammar → RawClause → Option Said };
+
+    // whether it keeps the limits
+    ghost small: { Said → Bool };
+
+    fn name(&self) -> &'a [u8]
+        ensures { result.now ≡ called (said self.now) };
+
+    // The clause, if it reads and keeps the limits.
+    fn from_clause(clause: RawEntry<'a>, grammar: Grammar) -> Result<Self, Question>
+        ensures { result_map_both said number_of result ≡ kept small (reads grammar (raw_in clause.entry)) };
+}
+
+impl<'a> Entry<'a> for ExportEntry<'a> {
+    ghost Said = { Export };
+
+    ghost said = { export_in };
+
+    ghost called = { λ e. e.name };
+
+    ghost reads = { λ g. export_of };
+
+    ghost small = { small_export };
+
+    fn name(&self) -> &'a [u8] {
+        self.name
+    }
+
+    fn from_clause(clause: RawEntry<'a>, _grammar: Grammar) -> Result<ExportEntry<'a>, Question> {
+        let version = read_or_missing(clause.version).ok_or(Question::Unreadable)?;
+        if !is_short(clause.name) {
+            return Err(Question::OverLimit);
+        }
+        let uses = used_names(clause.uses).ok_or(Question::OverLimit)?;
+        Ok(ExportEntry {
+            name: clause.name,
+            version,
+            uses,
+        })
     }
 }
 
-// The range that is given, if it reads; all versions where none is.
-fn range_or(text: &[u8], given: Option<Span>) -> Option<Range<Version>>
-    ensures { result ≡ range_or (option_map (span_of text.now) given) }
-{
-    match given {
-        None => Some(Range::all()),
-        Some(range) => Range::read(bytes(text, range)),
+impl<'a> Entry<'a> for Need<'a> {
+    ghost Said = { NeedSaid };
+
+    ghost said = { need_of };
+
+    ghost called = { λ n. n.name };
+
+    ghost reads = { need_by };
+
+    ghost small = { short_need };
+
+    fn name(&self) -> &'a [u8] {
+        self.name
     }
+
+    fn from_clause(clause: RawEntry<'a>, grammar: Grammar) -> Result<Need<'a>, Question> {
+        let range = read_or_missing(clause.version).ok_or(Question::Unreadable)?;
+        if !is_short(clause.name) {
+            return Err(Question::OverLimit);
+        }
+        Ok(Need {
+            kind: kind_of(grammar, clause.visibility),
+            name: clause.name,
+            range,
+            resolution: clause.resolution.unwrap_or_default(),
+        })
+    }
+}
+
+// The names that an export uses, if they keep the limits; none where none are given.
+fn used_names(given: Option<&[u8]>) -> Option<ArrayVec<&[u8], USES>>
+    ensures { option_map (λ v. map (λ u. u.now) v.items) result ≡ within few_names (unwrap_or (option_map names_in given.entry) []) }
+{
+    given.map_or(Some(ArrayVec::new()), names)
 }
 
 // The names between commas.
-fn names(text: &[u8], list: Span) -> Gathered<Span, 8>
-    requires { length text.now ≤ 65536 }
-    ensures { names_got text.now result ≡ kept few_names (parts 44 (span_of text.now list)) }
+fn names(list: &[u8]) -> Option<ArrayVec<&[u8], USES>>
+    ensures { option_map (λ v. map (λ u. u.now) v.items) result ≡ within few_names (parts 44 list.now) }
 {
-    let mut pieces = Cuts::of(list, b',', false);
-    let mut all = Gathered::new(no_span());
-    while let Some(name) = pieces.next(text) {
-        if is_short(bytes(text, name)) {
-            all.add(name);
-        } else {
-            all.exceed();
+    let mut names = ArrayVec::new();
+    for name in Pieces::plain(list, b',') {
+        if !is_short(name) {
+            return None;
         }
+        names.try_push(name).ok()?;
     }
-    all
-}
-
-fn used_names(text: &[u8], given: Option<Span>) -> Gathered<Span, 8>
-    requires { length text.now ≤ 65536 }
-    ensures { names_got text.now result ≡ kept few_names (unwrap_or (option_map (names_in text.now) given) []) }
-{
-    match given {
-        None => Gathered::new(no_span()),
-        Some(list) => names(text, list),
-    }
-}
-
-// An export: `None` where it does not read, `Some(None)` where it breaks a limit.
-pub fn export(text: &[u8], s: Span) -> Option<Option<ExportEntry>>
-    requires { length text.now ≤ 65536 }
-    ensures { option_map (option_map (export_in text.now)) result ≡ export_piece (span_of text.now s) }
-{
-    let c = clause(text, s, Grammar::Exports)?;
-    let version = version_or(text, c.version)?;
-    let uses = used_names(text, c.uses);
-    if !is_short(bytes(text, c.name)) {
-        return Some(None);
-    }
-    if uses.over {
-        return Some(None);
-    }
-    Some(Some(ExportEntry {
-        name: c.name,
-        version,
-        uses: uses.items,
-    }))
+    Some(names)
 }
 
 // What a clause of the header is, as a need.
-fn kind_of(grammar: Grammar, c: RawEntry) -> NeedKind
-    ensures { result ≡ kind_by grammar c.visibility }
+fn kind_of(grammar: Grammar, visibility: Option<Visibility>) -> NeedKind
+    ensures { result ≡ kind_by grammar visibility }
 {
     match grammar {
-        Grammar::Exports => NeedKind::Import,
-        Grammar::Imports => NeedKind::Import,
-        Grammar::Requires => match c.visibility {
-            None => NeedKind::Require(Visibility::Private),
-            Some(visibility) => NeedKind::Require(visibility),
-        },
+        Grammar::Exports | Grammar::Imports => NeedKind::Import,
+        Grammar::Requires => NeedKind::Require(visibility.unwrap_or_default()),
     }
-}
-
-fn resolution_or(given: Option<Resolution>) -> Resolution
-    ensures { result ≡ unwrap_or given Mandatory }
-{
-    match given {
-        None => Resolution::Mandatory,
-        Some(resolution) => resolution,
-    }
-}
-
-// A need: `None` where it does not read, `Some(None)` where it breaks a limit.
-pub fn need(text: &[u8], s: Span, grammar: Grammar) -> Option<Option<NeedEntry>>
-    requires { length text.now ≤ 65536 }
-    ensures { option_map (option_map (need_in text.now)) result ≡ need_piece grammar (span_of text.now s) }
-{
-    let c = clause(text, s, grammar)?;
-    let range = range_or(text, c.version)?;
-    if !is_short(bytes(text, c.name)) {
-        return Some(None);
-    }
-    Some(Some(NeedEntry {
-        kind: kind_of(grammar, c),
-        name: c.name,
-        range,
-        resolution: resolution_or(c.resolution),
-    }))
 }

@@ -1,9 +1,11 @@
 // The keys of parameters, and the words that may stand after them.
 ghost use Rattle.std.specs.Prelude.{◌≡◌};
-ghost use Rattle.manifest.specs.Parameters.{has_resolution, has_uses, has_visibility, resolution_of, version_key, visibility_of};
+ghost use Rattle.shelf.specs.Meaning.{bound};
+ghost use Rattle.manifest.specs.Parameters.{after as after_key, version_key};
+ghost use Rattle.manifest.specs.Stages.{either_of};
 
 use crate::header::Grammar;
-use shelf::need::{Resolution, Visibility};
+use crate::quoted::after;
 use text::bytes::same_text;
 
 pub fn version_key(grammar: Grammar) -> &'static [u8]
@@ -15,43 +17,21 @@ pub fn version_key(grammar: Grammar) -> &'static [u8]
     }
 }
 
-pub fn has_uses(grammar: Grammar) -> bool
-    ensures { result ≡ has_uses grammar }
+// What the word after the key stands for, of the two that may stand there.
+// Not a `match` on byte strings: each byte that differs is a goal of its own there, and stays open.
+pub fn keyword<T: Copy>(
+    piece: &[u8],
+    key: &[u8],
+    first: (&[u8], T),
+    second: (&[u8], T),
+) -> Option<T>
+    ensures { result ≡ bound (after_key key.now piece.now) (λ word. either_of word first.entry.0.now first.entry.1 second.entry.0.now second.entry.1) }
 {
-    matches!(grammar, Grammar::Exports)
-}
-
-pub fn has_resolution(grammar: Grammar) -> bool
-    ensures { result ≡ has_resolution grammar }
-{
-    matches!(grammar, Grammar::Imports | Grammar::Requires)
-}
-
-pub fn has_visibility(grammar: Grammar) -> bool
-    ensures { result ≡ has_visibility grammar }
-{
-    matches!(grammar, Grammar::Requires)
-}
-
-pub fn resolution(text: &[u8]) -> Option<Resolution>
-    ensures { result ≡ resolution_of text.now }
-{
-    if same_text(text, b"mandatory") {
-        Some(Resolution::Mandatory)
-    } else if same_text(text, b"optional") {
-        Some(Resolution::Optional)
-    } else {
-        None
-    }
-}
-
-pub fn visibility(text: &[u8]) -> Option<Visibility>
-    ensures { result ≡ visibility_of text.now }
-{
-    if same_text(text, b"private") {
-        Some(Visibility::Private)
-    } else if same_text(text, b"reexport") {
-        Some(Visibility::Reexport)
+    let word = after(piece, key)?;
+    if same_text(word, first.0) {
+        Some(first.1)
+    } else if same_text(word, second.0) {
+        Some(second.1)
     } else {
         None
     }

@@ -9,12 +9,9 @@ mod chars;
 pub mod check;
 mod clause;
 mod clauses;
-mod cuts;
 mod directory;
 mod draft;
 mod entry;
-mod few;
-mod gathered;
 pub mod header;
 mod headers;
 mod items;
@@ -26,23 +23,18 @@ mod names;
 mod parameters;
 pub mod question;
 mod quoted;
+mod reader;
 pub mod refusal;
-mod span;
-mod steps;
-mod strip;
+mod texts;
 mod twice;
 mod values;
 
 // The laws that the definitions keep by themselves.
-pub fn laws_hold() -> u8
+pub fn laws_hold()
     ensures { OnlyWritten × EveryOrder × PointsAtLines × ReadsLawful × ReadsBack × LawfulFormed }
-{
-    0
-}
+{}
 
 // Short directories, read by the definitions.
-pub fn examples_hold() -> u8
+pub fn examples_hold()
     ensures { Examples }
-{
-    0
-}
+{}

@@ -1,51 +1,38 @@
-// The clauses of a value as entries of the index.
-ghost use Rattle.std.specs.Prelude.{◌≡◌, ◌≤◌, true, false, [], length, Some};
-ghost use Rattle.std.specs.Option.{option_map};
+// The clauses of a value, one by one.
+ghost use Rattle.std.specs.Prelude.{◌≡◌, true, false, map, Ok};
+ghost use Rattle.std.specs.Result.{result_map_both};
 ghost use Rattle.text.specs.Splitting.{split};
-ghost use Rattle.manifest.specs.Index.{exports_got, needs_got};
-ghost use Rattle.manifest.specs.Spans.{span_of};
-ghost use Rattle.manifest.specs.Stages.{export_piece, gather, need_piece};
+ghost use Rattle.manifest.specs.Clauses.{each};
+ghost use Rattle.manifest.specs.Numbers.{number_of};
+ghost use Rattle.manifest.specs.Stages.{few, kept, read_by};
 
-use crate::cuts::Cuts;
-use crate::entry::{ExportEntry, NeedEntry, no_export, no_need};
-use crate::gathered::Gathered;
+use crate::clauses::clause;
 use crate::header::Grammar;
-use crate::items::{export, need};
-use crate::span::Span;
+use crate::items::Entry;
+use crate::question::Question;
+use arrayvec::ArrayVec;
+use text::pieces::Pieces;
 
-// `None` where one of them does not read.
-pub fn exports(text: &[u8], value: Span) -> Option<Gathered<ExportEntry, 16>>
-    requires { length text.now ≤ 65536 }
-    ensures { option_map (exports_got text.now) result ≡ gather 16 export_piece (Some (Some [])) (split true 44 false (span_of text.now value)) }
+// What each clause is read as. One that breaks a limit is kept in mind: a later one that does not read is answered first.
+pub fn entries<'a, T: Entry<'a>, const N: usize>(
+    value: &'a [u8],
+    grammar: Grammar,
+) -> Result<ArrayVec<T, N>, Question>
+    ensures { result_map_both (λ v. map T.said v.items) number_of result
+        ≡ kept (few N T.small 0) (each (read_by grammar (T.reads grammar)) (split true 44 false value.now)) }
 {
-    let mut pieces = Cuts::of(value, b',', true);
-    let mut all = Gathered::new(no_export());
-    while let Some(piece) = pieces.next(text) {
-        match export(text, piece) {
-            None => return None,
-            Some(one) => match one {
-                None => all.exceed(),
-                Some(entry) => all.add(entry),
-            },
+    let mut entries = ArrayVec::new();
+    let mut over = false;
+    for piece in Pieces::outside_quotes(value, b',') {
+        let clause = clause(piece, grammar).ok_or(Question::Unreadable)?;
+        match T::from_clause(clause, grammar) {
+            Ok(entry) => over |= entries.try_push(entry).is_err(),
+            Err(Question::OverLimit) => over = true,
+            Err(question) => return Err(question),
         }
     }
-    Some(all)
-}
-
-pub fn needs(text: &[u8], value: Span, grammar: Grammar) -> Option<Gathered<NeedEntry, 16>>
-    requires { length text.now ≤ 65536 }
-    ensures { option_map (needs_got text.now) result ≡ gather 16 (need_piece grammar) (Some (Some [])) (split true 44 false (span_of text.now value)) }
-{
-    let mut pieces = Cuts::of(value, b',', true);
-    let mut all = Gathered::new(no_need());
-    while let Some(piece) = pieces.next(text) {
-        match need(text, piece, grammar) {
-            None => return None,
-            Some(one) => match one {
-                None => all.exceed(),
-                Some(entry) => all.add(entry),
-            },
-        }
+    if over {
+        return Err(Question::OverLimit);
     }
-    Some(all)
+    Ok(entries)
 }

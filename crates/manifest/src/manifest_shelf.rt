@@ -4,7 +4,8 @@ ghost use Rattle.manifest.specs.Index.{bundles_in};
 ghost use Rattle.manifest.specs.Reading.{reading};
 
 use crate::entry::BundleEntry;
-use crate::few::Few;
+use arrayvec::ArrayVec;
+use shelf::limits::PLACES;
 
 pub mod opening;
 pub mod questions;
@@ -13,6 +14,6 @@ pub mod questions;
 #[derive(Drop)]
 pub struct ManifestShelf<'a> {
     text: &'a [u8],
-    places: Few<BundleEntry, 64>,
-    ghost lawful: { ∥ Ok (bundles_in text.now places) ≡ reading text.now ∥₁ },
+    bundles: ArrayVec<BundleEntry<'a>, PLACES>,
+    ghost lawful: { ∥ Ok (bundles_in bundles) ≡ reading text.now ∥₁ },
 }

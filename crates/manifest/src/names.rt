@@ -16,24 +16,12 @@ pub fn is_word(text: &[u8]) -> bool
 pub fn is_name(text: &[u8]) -> bool
     ensures { result ≡ is_name text.now }
 {
-    let mut words = Pieces::plain(text, b'.');
-    while let Some(word) = words.next() {
-        if !is_word(word) {
-            return false;
-        }
-    }
-    true
+    Pieces::plain(text, b'.').all(is_word)
 }
 
 // Whether the text is names joined by commas.
 pub fn are_names(text: &[u8]) -> bool
     ensures { result ≡ all is_name (parts 44 text.now) }
 {
-    let mut names = Pieces::plain(text, b',');
-    while let Some(name) = names.next() {
-        if !is_name(name) {
-            return false;
-        }
-    }
-    true
+    Pieces::plain(text, b',').all(is_name)
 }

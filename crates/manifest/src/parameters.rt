@@ -1,108 +1,72 @@
 // The parameters of a clause.
-ghost use Rattle.std.specs.Prelude.{◌≡◌, ℕ, ◌≤◌, List, length, codes};
+ghost use Rattle.std.specs.Prelude.{◌≡◌, codes};
 ghost use Rattle.std.specs.Option.{option_map};
 ghost use Rattle.shelf.specs.Meaning.{bound};
 ghost use Rattle.manifest.specs.Clauses.{with_parameter};
-ghost use Rattle.manifest.specs.Parameters.{after as after_key, names_of, parameter_of, quoted_after, resolution_of, visibility_of};
-ghost use Rattle.manifest.specs.Parts.{names_in, part_in, raw_in};
-ghost use Rattle.manifest.specs.Spans.{span_of};
+ghost use Rattle.manifest.specs.Parameters.{after as after_key, names_of, parameter_of, quoted_after, resolution_of, visibility_of, uses, resolution as resolved, visibility as visible};
+ghost use Rattle.manifest.specs.Parts.{part_in, raw_in};
 
 use crate::clause::{Part, RawEntry};
 use crate::header::Grammar;
-use crate::keywords::{
-    has_resolution, has_uses, has_visibility, resolution, version_key, visibility,
-};
+use crate::keywords::{keyword, version_key};
 use crate::names::are_names;
-use crate::quoted::{after, quoted_after};
-use crate::span::{Span, bytes};
+use crate::quoted::quoted_after;
 use shelf::need::{Resolution, Visibility};
 
-// What a part of the text says as a parameter of that header's clauses.
-pub fn parameter(text: &[u8], s: Span, grammar: Grammar) -> Option<Part>
-    requires { length text.now ≤ 65536 }
-    ensures { option_map (part_in text.now) result ≡ parameter_of grammar (span_of text.now s) }
+// What a piece of a clause says as a parameter of that header's clauses.
+pub fn parameter(piece: &[u8], grammar: Grammar) -> Option<Part<'_>>
+    ensures { option_map part_in result ≡ parameter_of grammar piece.now }
 {
-    if let Some(version) = quoted_after(text, s, version_key(grammar)) {
+    if let Some(version) = quoted_after(piece, version_key(grammar)) {
         return Some(Part::Version(version));
     }
-    if has_uses(grammar) {
-        if let Some(names) = uses_in(text, s) {
-            return Some(Part::Uses(names));
-        }
-    }
-    if has_resolution(grammar) {
-        if let Some(word) = resolution_in(text, s) {
-            return Some(Part::Resolution(word));
-        }
-    }
-    if has_visibility(grammar) {
-        if let Some(word) = visibility_in(text, s) {
-            return Some(Part::Visibility(word));
-        }
-    }
-    None
-}
-
-fn uses_in(text: &[u8], s: Span) -> Option<Span>
-    requires { length text.now ≤ 65536 }
-    ensures { option_map (names_in text.now) result ≡ bound (quoted_after (codes "uses:=") (span_of text.now s)) names_of }
-{
-    let names = quoted_after(text, s, b"uses:=")?;
-    if are_names(bytes(text, names)) {
-        Some(names)
-    } else {
-        None
+    match grammar {
+        Grammar::Exports => uses_in(piece),
+        Grammar::Imports => resolution_in(piece),
+        Grammar::Requires => resolution_in(piece).or_else(|| visibility_in(piece)),
     }
 }
 
-fn resolution_in(text: &[u8], s: Span) -> Option<Resolution>
-    requires { length text.now ≤ 65536 }
-    ensures { result ≡ bound (after_key (codes "resolution:=") (span_of text.now s)) resolution_of }
+fn uses_in(piece: &[u8]) -> Option<Part<'_>>
+    ensures { option_map part_in result ≡ option_map uses (bound (quoted_after (codes "uses:=") piece.now) names_of) }
 {
-    let word = after(text, s, b"resolution:=")?;
-    resolution(bytes(text, word))
+    let names = quoted_after(piece, b"uses:=")?;
+    are_names(names).then_some(Part::Uses(names))
 }
 
-fn visibility_in(text: &[u8], s: Span) -> Option<Visibility>
-    requires { length text.now ≤ 65536 }
-    ensures { result ≡ bound (after_key (codes "visibility:=") (span_of text.now s)) visibility_of }
+fn resolution_in(piece: &[u8]) -> Option<Part<'_>>
+    ensures { option_map part_in result ≡ option_map resolved (bound (after_key (codes "resolution:=") piece.now) resolution_of) }
 {
-    let word = after(text, s, b"visibility:=")?;
-    visibility(bytes(text, word))
+    let resolution = keyword(
+        piece,
+        b"resolution:=",
+        (b"mandatory", Resolution::Mandatory),
+        (b"optional", Resolution::Optional),
+    )?;
+    Some(Part::Resolution(resolution))
+}
+
+fn visibility_in(piece: &[u8]) -> Option<Part<'_>>
+    ensures { option_map part_in result ≡ option_map visible (bound (after_key (codes "visibility:=") piece.now) visibility_of) }
+{
+    let visibility = keyword(
+        piece,
+        b"visibility:=",
+        (b"private", Visibility::Private),
+        (b"reexport", Visibility::Reexport),
+    )?;
+    Some(Part::Visibility(visibility))
 }
 
 // The clause with one parameter more, unless it had that already.
-pub fn with_parameter(c: RawEntry, p: Part) -> Option<RawEntry>
-    ensures { (t : List ℕ) → option_map (raw_in t) result ≡ with_parameter (raw_in t c) (part_in t p) }
+pub fn with_parameter<'a>(mut clause: RawEntry<'a>, part: Part<'a>) -> Option<RawEntry<'a>>
+    ensures { option_map raw_in result ≡ with_parameter (raw_in clause.entry) (part_in part.entry) }
 {
-    match p {
-        Part::Version(version) => match c.version {
-            Some(_) => None,
-            None => Some(RawEntry {
-                version: Some(version),
-                ..c
-            }),
-        },
-        Part::Uses(uses) => match c.uses {
-            Some(_) => None,
-            None => Some(RawEntry {
-                uses: Some(uses),
-                ..c
-            }),
-        },
-        Part::Resolution(resolution) => match c.resolution {
-            Some(_) => None,
-            None => Some(RawEntry {
-                resolution: Some(resolution),
-                ..c
-            }),
-        },
-        Part::Visibility(visibility) => match c.visibility {
-            Some(_) => None,
-            None => Some(RawEntry {
-                visibility: Some(visibility),
-                ..c
-            }),
-        },
-    }
+    let fresh = match part {
+        Part::Version(version) => clause.version.replace(version).is_none(),
+        Part::Uses(uses) => clause.uses.replace(uses).is_none(),
+        Part::Resolution(resolution) => clause.resolution.replace(resolution).is_none(),
+        Part::Visibility(visibility) => clause.visibility.replace(visibility).is_none(),
+    };
+    fresh.then_some(clause)
 }

@@ -2,33 +2,35 @@
 ghost use Rattle.std.specs.Prelude.{◌≡◌};
 ghost use Rattle.manifest.specs.Numbers.{number_of};
 
+use std::fmt;
+
 // What is wrong where the question is answered no, in the order of asking.
-#[derive(Clone, Copy)]
+#[derive(Clone, Copy, Debug, PartialEq, Eq)]
 pub enum Question {
     // more than 65,536 bytes
-    TextTooLong,
+    TextTooLong = 1,
     // a byte other than 32 to 126 and line feeds
-    StrayByte,
+    StrayByte = 2,
     // the last manifest is not closed by an empty line
-    NotClosed,
+    NotClosed = 3,
     // a line that is no header line
-    NotAHeader,
+    NotAHeader = 5,
     // a known header for the second time in one manifest
-    HeaderTwice,
+    HeaderTwice = 6,
     // a value that does not follow its header's form
-    Malformed,
+    Malformed = 7,
     // a version, range or number that does not read
-    Unreadable,
+    Unreadable = 8,
     // a name too long, or too many of something
-    OverLimit,
+    OverLimit = 9,
     // a name twice in one value
-    NameTwice,
+    NameTwice = 10,
     // a manifest without a symbolic name
-    NoSymbolicName,
+    NoSymbolicName = 11,
     // a 65th manifest
-    TooManyBundles,
+    TooManyBundles = 12,
     // an earlier bundle has this name and version
-    BundleTwice,
+    BundleTwice = 13,
 }
 
 impl Question {
@@ -36,19 +38,33 @@ impl Question {
     pub fn number(self) -> u8
         ensures { result ≡ number_of self }
     {
-        match self {
-            Question::TextTooLong => 1,
-            Question::StrayByte => 2,
-            Question::NotClosed => 3,
-            Question::NotAHeader => 5,
-            Question::HeaderTwice => 6,
-            Question::Malformed => 7,
-            Question::Unreadable => 8,
-            Question::OverLimit => 9,
-            Question::NameTwice => 10,
-            Question::NoSymbolicName => 11,
-            Question::TooManyBundles => 12,
-            Question::BundleTwice => 13,
-        }
+        self as u8
+    }
+}
+
+// What is asked, in words.
+impl fmt::Display for Question {
+    ghost use Rattle.std.specs.Prelude.{Some};
+    ghost use Rattle.manifest.specs.Words.{asked};
+
+    ghost output = { λ question. Some (asked question) };
+
+    fn fmt<W: fmt::Write>(&self, f: &mut fmt::Formatter<W>) -> fmt::Result {
+        f.write_str(match self {
+            Question::TextTooLong => "is the text at most 65536 bytes?",
+            Question::StrayByte => "is every byte 32 to 126 or a line feed?",
+            Question::NotClosed => "does the text end with an empty line and its line feed?",
+            Question::NotAHeader => "is it a header line (a name, a colon, a space and a value)?",
+            Question::HeaderTwice => "is the header new to its manifest?",
+            Question::Malformed => "does the value follow the form of its header?",
+            Question::Unreadable => "is every version, range and number readable?",
+            Question::OverLimit => {
+                "are names at most 48 bytes, and exports, used names and needs few enough?"
+            }
+            Question::NameTwice => "is nothing named twice?",
+            Question::NoSymbolicName => "was there a Bundle-SymbolicName?",
+            Question::TooManyBundles => "is it at most the 64th manifest?",
+            Question::BundleTwice => "has no earlier bundle its name and version?",
+        })
     }
 }

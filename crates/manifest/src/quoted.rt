@@ -1,45 +1,34 @@
-// What follows a key in a part of the text, and what stands in quotes there.
-ghost use Rattle.std.specs.Prelude.{◌≡◌, ◌≤◌, length};
+// What follows a key, and what stands in quotes there.
+ghost use Rattle.std.specs.Prelude.{◌≡◌};
 ghost use Rattle.std.specs.Option.{option_map};
 ghost use Rattle.manifest.specs.Parameters.{after as after_key, quoted_after, unquoted as unquoted_of};
-ghost use Rattle.manifest.specs.Spans.{span_of};
 
-use crate::span::{Span, bytes, part};
-use crate::strip::strip;
 use text::pieces::find;
 
-// What follows the key, if the part begins with it.
-pub fn after(text: &[u8], s: Span, key: &[u8]) -> Option<Span>
-    requires { length text.now ≤ 65536 }
-    ensures { option_map (span_of text.now) result ≡ after_key key.now (span_of text.now s) }
+// What follows the key, if the text begins with it.
+#[tactic(auto, using(crate::proofs::Strips::after_stripped))]
+pub fn after<'a>(text: &'a [u8], key: &[u8]) -> Option<&'a [u8]>
+    ensures { option_map (λ x. x.now) result ≡ after_key key.now text.now }
 {
-    let all = bytes(text, s);
-    match strip(all, key) {
-        None => None,
-        Some(rest) => Some(part(text, s, key.len(), rest.len())),
-    }
+    text.strip_prefix(key)
 }
 
 // TEXT of `TEXT"`, if that quote is the only one.
-pub fn unquoted(text: &[u8], s: Span) -> Option<Span>
-    requires { length text.now ≤ 65536 }
-    ensures { option_map (span_of text.now) result ≡ unquoted_of (span_of text.now s) }
+pub fn unquoted(text: &[u8]) -> Option<&[u8]>
+    ensures { option_map (λ x. x.now) result ≡ unquoted_of text.now }
 {
-    let all = bytes(text, s);
-    let end = find(all, b'"', false);
-    if end < all.len() && end + 1 == all.len() {
-        Some(part(text, s, 0, end))
+    let end = find(text, b'"', false)?;
+    if end + 1 == text.len() {
+        Some(&text[..end])
     } else {
         None
     }
 }
 
 // TEXT of `KEY"TEXT"`.
-pub fn quoted_after(text: &[u8], s: Span, key: &[u8]) -> Option<Span>
-    requires { length text.now ≤ 65536 }
-    ensures { option_map (span_of text.now) result ≡ quoted_after key.now (span_of text.now s) }
+pub fn quoted_after<'a>(text: &'a [u8], key: &[u8]) -> Option<&'a [u8]>
+    ensures { option_map (λ x. x.now) result ≡ quoted_after key.now text.now }
 {
-    let value = after(text, s, key)?;
-    let open = after(text, value, b"\"")?;
-    unquoted(text, open)
+    let value = after(text, key)?;
+    unquoted(after(value, b"\"")?)
 }

@@ -1,61 +1,29 @@
 // Whether a name stands twice in a value.
-ghost use Rattle.std.specs.Prelude.{◌≡◌, not, map, drop};
-ghost use Rattle.manifest.specs.Held.{held};
+ghost use Rattle.std.specs.Prelude.{◌≡◌, not, map};
 ghost use Rattle.manifest.specs.Names.{among, none_twice};
-ghost use Rattle.manifest.specs.Spans.{span_of};
-ghost use Rattle.manifest.specs.declared.span.Span.{Span};
 
-use crate::entry::{ExportEntry, NeedEntry};
-use crate::few::Few;
-use crate::span::{Span, bytes};
+use crate::items::Entry;
 use text::bytes::same_text;
 
-// Entries that go by a name.
-pub trait Named: Copy {
-    ghost called: { Self → Span };
-
-    fn name(&self) -> Span
-        ensures { result ≡ called self.now };
-}
-
-impl Named for ExportEntry {
-    ghost called = { λ e. e.name };
-
-    fn name(&self) -> Span {
-        self.name
-    }
-}
-
-impl Named for NeedEntry {
-    ghost called = { λ n. n.name };
-
-    fn name(&self) -> Span {
-        self.name
-    }
-}
-
-// Whether the name is among those from an index on.
-fn is_among<T: Named, const N: usize>(
-    text: &[u8],
-    name: &[u8],
-    items: &Few<T, N>,
-    from: usize,
-) -> bool
-    ensures { result ≡ among name.now (drop from (map (λ x. span_of text.now (T.Named.called x)) (held items.now))) }
+pub fn has_twice<'a, T: Entry<'a>>(entries: &[T]) -> bool
+    ensures { result ≡ not (none_twice (map T.called (map T.said entries.now))) }
 {
-    for i in from..items.len() {
-        if same_text(name, bytes(text, items.at(i).name())) {
+    let mut rest = entries;
+    while let Some((entry, others)) = rest.split_first() {
+        if is_among(entry.name(), others) {
             return true;
         }
+        rest = others;
     }
     false
 }
 
-pub fn has_twice<T: Named, const N: usize>(text: &[u8], items: &Few<T, N>) -> bool
-    ensures { result ≡ not (none_twice (map (λ x. span_of text.now (T.Named.called x)) (held items.now))) }
+// A loop, since a closure for `any` would need the bound's lifetime, which today's check does not cover.
+fn is_among<'a, T: Entry<'a>>(name: &[u8], entries: &[T]) -> bool
+    ensures { result ≡ among name.now (map T.called (map T.said entries.now)) }
 {
-    for i in 0..items.len() {
-        if is_among(text, bytes(text, items.at(i).name()), items, i + 1) {
+    for entry in entries {
+        if same_text(name, entry.name()) {
             return true;
         }
     }

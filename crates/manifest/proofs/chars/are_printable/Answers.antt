@@ -1,12 +1,8 @@
-use Rattle.std.proofs.Common.{rules}
-use Rattle.text.proofs.Every.{fails, passes, all}
+use Rattle.std.proofs.Common.{rules, refl}
+use Rattle.std.proofs.lemmas.List.Recursion.{and_is}
+use Rattle.text.specs.Bytes.{every}
+use Rattle.manifest.specs.Reading.{printable}
 use Rattle.manifest.proofs.chars.are_printable.Goals as goal
 
-pub returns-then-not-is_printable : goal.returns-then-not-is_printable
-returns-then-not-is_printable c = search (rules, fails)
-
-pub loop-b-preserved : goal.loop-b-preserved
-loop-b-preserved c = search (rules, passes)
-
 pub returns : goal.returns
-returns c = search (rules, all)
+returns c = and_is (every printable) printable refl (λ _ _. refl) c.args.text.now 0 c.all.result (search rules) (search rules)

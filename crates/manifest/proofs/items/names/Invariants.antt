@@ -1,11 +1,13 @@
-use Rattle.std.proofs.Common.{◌≡◌, [], length, Some}
-use Rattle.manifest.specs.Index.{names_got}
-use Rattle.manifest.specs.Spans.{left_in}
-use Rattle.manifest.specs.Stages.{gather, name_piece}
+use Rattle.std.proofs.Common.{◌≡◌, ◌+◌, ◌≤◌, cond, ◌&&◌, ◌++◌, leb, length, map, Some, None}
+use Rattle.text.specs.Left.{left}
+use Rattle.text.specs.Splitting.{parts}
+use Rattle.manifest.specs.Names.{all}
+use Rattle.manifest.specs.Stages.{few_names, within}
+use Rattle.manifest.specs.Values.{short_name}
 use Rattle.manifest.proofs.items.names.Given as goal
 
 abbrev pub invariant-loop-name : goal.invariant-loop-name
-invariant-loop-name l = gather 8 name_piece (Some (names_got l.text l.all)) (left_in l.text l.pieces) ≡ gather 8 name_piece (Some (Some [])) (left_in l.text l.initial.pieces)
-
-abbrev pub decreases-loop-name : goal.decreases-loop-name
-decreases-loop-name l = length (left_in l.text l.pieces)
+invariant-loop-name l =
+    let more = left l.name-iterator in
+    (length l.names.items ≤ 8)
+    × (cond (leb (length l.names.items + length more) 8 && all short_name more) (Some (map (λ u. u.now) l.names.items ++ more)) None ≡ within few_names (parts 44 l.list))
