@@ -3,7 +3,6 @@ pub mod Keeping
 pub mod Within
 pub mod Whole
 pub mod Cells
-pub mod Gather
-pub mod Counts
+pub mod Rows
 pub mod Exported
 pub mod Ruled

@@ -1,5 +1,5 @@
 -- Whole wirings: all is known of them, and their parts are whole.
-use Rattle.std.proofs.Common.{◌≡◌, ℕ, Bool, true, false, cond, IsSomeAnd, Some, None, Option, refl, ap, inr, arith}
+use Rattle.std.proofs.Common.{◌≡◌, ℕ, Bool, true, false, cond, IsSomeAnd, Some, None, Option, refl, ap, inr}
 use Rattle.kinds.specs.declared.controller.ControllerNumber.{ControllerNumber}
 use Rattle.shelf.specs.Meaning.{Name, Need, Meaning, need_at, is_import}
 use Rattle.wiring.specs.declared.choice.Choice.{Choice}
@@ -37,13 +37,13 @@ module _ (m : Meaning) (C : ℕ → Type 0) (t : Table) (closed : Closed C t) (a
 
 -- no wire is where a kept choice is unwired
 bare_wire : (o : Option Choice) (c : ℕ) → Bare o → o ≡ Some (From c) → ⊥
-bare_wire None c h e = let z : ◌≡◌ {A = ℕ} 0 1 = cc in omega arith
-bare_wire (Some d) c h e = let z : ◌≡◌ {A = ℕ} 0 1 = cc in omega arith
+bare_wire None c h e = cc
+bare_wire (Some d) c h e = cc
 
 module _ (m : Meaning) (controller : ControllerNumber) (has : ℕ → Bool) where
   legal_in : (b : ℕ) (n : Need) (o : Option Choice) (c : ℕ) → IsSomeAnd o (Legal m controller has b n) → o ≡ Some (From c) → In has c
   legal_in b n None c l e = absurd l
-  legal_in b n (Some Unwired) c l e = let z : ◌≡◌ {A = ℕ} 0 1 = cc in absurd (omega arith)
+  legal_in b n (Some Unwired) c l e = absurd (cc)
   legal_in b n (Some (From x)) c l e = let f : x ≡ c = cc in rw (← f) l.0
 
   legal_decided : (b : ℕ) (n : Need) (o : Option Choice) → IsSomeAnd o (Legal m controller has b n) → Decided o

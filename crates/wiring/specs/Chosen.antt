@@ -5,4 +5,4 @@ use Rattle.wiring.specs.declared.table.ChoiceTable.{ChoiceTable}
 use Rattle.wiring.specs.Cells.{choice_in}
 
 abbrev pub chosen : ChoiceTable → ℕ → ℕ → Choice
-chosen t b k = choice_in t.choices b k
+chosen t b k = choice_in t.rows b k

@@ -1,16 +1,17 @@
 -- What a partial wiring says.
-use Rattle.std.specs.Prelude.{ℕ, cond, List, Some, None, nat_lt, slice_index}
+use Rattle.std.specs.Prelude.{ℕ, List, [], length, slice_get, slice_index_or}
+use Rattle.arrayvec.specs.ArrayVec.{ArrayVec}
 use Rattle.wiring.specs.declared.choice.Choice.{Choice}
 use Rattle.wiring.specs.declared.partial.PartialWiring.{PartialWiring}
-use Rattle.wiring.specs.Chosen.{chosen}
 use Rattle.wiring.specs.Wirings.{Table}
 
--- the first needs of a bundle are decided, as many as the count says, and the others are open
-abbrev pub counted : (ℕ → ℕ → Choice) → List ℕ → Table
-counted choices decided b k = cond (nat_lt k (slice_index decided b)) (Some (choices b k)) None
+-- the choices for the first needs of a bundle; none past the last place
+abbrev pub choices_of : List (ArrayVec Choice) → ℕ → List Choice
+choices_of rows b = (slice_index_or rows b (record { items = [] })).items
 
 abbrev pub count_of : PartialWiring → ℕ → ℕ
-count_of w b = slice_index w.decided b
+count_of w b = length (choices_of w.rows b)
 
+-- the needs that have no such choice are open
 abbrev pub table_of : PartialWiring → Table
-table_of w = counted (chosen w.choices) w.decided
+table_of w b k = slice_get (choices_of w.rows b) k

@@ -13,16 +13,12 @@ use shelf::shelf::Shelf;
 pub fn exported_version<S: Shelf>(shelf: &S, place: usize, name: &[u8]) -> Option<Version>
     ensures { result ≡ exported (S.Shelf.meaning shelf.now) place name.now }
 {
-    let Some(j) = export_named(shelf, place, name) else {
-        return None;
-    };
-    match shelf.export(place, j) {
-        Some(export) => Some(export.version),
-        None => None,
-    }
+    let j = export_named(shelf, place, name)?;
+    Some(shelf.export(place, j)?.version)
 }
 
 // The version of the bundle, if it has that name.
+#[tactic(auto, using(crate::proofs::Exported::named_version, crate::proofs::Exported::unnamed_none))]
 pub fn named_version<S: Shelf>(shelf: &S, place: usize, name: &[u8]) -> Option<Version>
     ensures { result ≡ named (S.Shelf.meaning shelf.now) place name.now }
 {
@@ -44,15 +40,9 @@ pub fn version_for<S: Shelf>(shelf: &S, need: &Need<'_>, place: usize) -> Option
 }
 
 // The version, if there is one and the range holds it.
+#[tactic(auto, using(kinds::proofs::Orders::version_order))]
 pub fn in_range(range: &Range<Version>, version: Option<Version>) -> Option<Version>
     ensures { result ≡ in_range range.now version }
 {
-    let Some(found) = version else {
-        return None;
-    };
-    if range.holds(&found) {
-        Some(found)
-    } else {
-        None
-    }
+    version.filter(|found| range.holds(found))
 }

@@ -1,14 +1,12 @@
 // The partial wiring itself, in a file of its own, since the definition of what it says names it.
-ghost use Rattle.std.specs.Prelude.{◌≡◌, length};
-
-use crate::table::ChoiceTable;
+use crate::choice::Choice;
+use arrayvec::ArrayVec;
+use shelf::limits::{NEEDS, PLACES};
 
 pub mod calls;
 
-// A bundle's needs are decided in order, so one counter for each place tells which of them are open.
+// A bundle's needs are decided in order: a place has the choices for its first needs, and the others are open.
 #[derive(Drop)]
 pub struct PartialWiring {
-    choices: ChoiceTable,
-    decided: [u8; 64],
-    ghost rows: { length decided ≡ 64 },
+    rows: [ArrayVec<Choice, NEEDS>; PLACES],
 }

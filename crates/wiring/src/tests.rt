@@ -1,7 +1,9 @@
 // A panel that imports what a meter exports, and choices for its needs.
-use crate::candidates::{candidates, fits, is_own, offered};
+use crate::candidates::Target;
 use crate::choice::Choice;
 use crate::partial::PartialWiring;
+use crate::refusal::DecideRefusal;
+use crate::table::ChoiceTable;
 use kinds::controller::ControllerNumber;
 use kinds::range::Range;
 use kinds::version::Version;
@@ -9,6 +11,7 @@ use shelf::need::{Need, NeedKind, Resolution};
 use shelf::plain::PlainShelf;
 use shelf::shelf::Shelf;
 use shelf::values::{PlainBundle, PlainExport};
+use std::test::Fail;
 
 const ONE: Version = Version {
     major: 1,
@@ -43,26 +46,47 @@ const PANEL: PlainBundle<'static> = PlainBundle {
     ..METER
 };
 
-const PLACES: &'static [Option<PlainBundle<'static>>] = &[Some(PANEL), None, Some(METER)];
+const TABLE: &'static [Option<PlainBundle<'static>>] = &[Some(PANEL), None, Some(METER)];
 
 #[test]
-fn what_is_offered(rt: HostRuntime) {
-    let mut shelf = PlainShelf::empty();
-    assert!(rt; shelf.fill(PLACES).is_ok());
-    assert!(rt; is_own(&shelf, 2, 0) && !is_own(&shelf, 0, 0));
-    assert!(rt; !fits(&shelf, ControllerNumber(7), 1));
-    assert!(rt; offered(&shelf, ControllerNumber(6), 0, 0, 2).is_none());
-    let found = candidates(&shelf, ControllerNumber(7), 0, 0);
+fn what_is_offered(rt: HostRuntime) -> Result<(), Fail> {
+    let shelf = PlainShelf::new(TABLE)?;
+    let target = Target {
+        shelf: &shelf,
+        controller: ControllerNumber(7),
+    };
+    assert!(rt; target.is_own(2, 0) && !target.is_own(0, 0));
+    assert!(rt; !target.fits(1));
+    let older = Target {
+        controller: ControllerNumber(6),
+        ..target
+    };
+    assert_eq!(rt; older.offered(0, 0, 2), None);
+    let found = target.candidates(0, 0);
     assert!(rt; found.contains(2) && !found.contains(0));
+    Ok(())
 }
 
 #[test]
 fn what_is_decided(rt: HostRuntime) {
     let mut wiring = PartialWiring::new();
-    assert!(rt; wiring.decide(0, Choice::From(2)).is_ok());
-    assert!(rt; wiring.decide(64, Choice::Unwired).is_err());
-    assert!(rt; wiring.get(0, 0) == Some(Choice::From(2)));
-    assert!(rt; wiring.get(0, 1).is_none());
-    assert!(rt; wiring.retract(0) == Some(Choice::From(2)));
+    assert_eq!(rt; wiring.decide(0, Choice::From(2)), Ok(()));
+    assert_eq!(rt;
+        wiring.decide(64, Choice::Unwired),
+        Err(DecideRefusal::NoSuchPlace)
+    );
+    assert_eq!(rt; wiring.get(0, 0), Some(Choice::From(2)));
+    assert_eq!(rt; wiring.get(0, 1), None);
+    assert_eq!(rt; wiring.retract(0), Some(Choice::From(2)));
     assert_eq!(rt; wiring.count(0), 0);
+}
+
+#[test]
+fn what_is_chosen(rt: HostRuntime) {
+    let mut table = ChoiceTable::new();
+    table.set(63, 15, Choice::From(2));
+    assert_eq!(rt; table.get(63, 15), Choice::From(2));
+    assert_eq!(rt; table.get(64, 0), Choice::Unwired);
+    table.clear(63);
+    assert_eq!(rt; table.get(63, 15), Choice::Unwired);
 }

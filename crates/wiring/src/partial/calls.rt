@@ -1,5 +1,5 @@
 // What can be done with a partial wiring.
-ghost use Rattle.std.specs.Prelude.{◌≡◌, ℕ, if◌then◌else◌, None, nat_eq};
+ghost use Rattle.std.specs.Prelude.{◌≡◌, ◌≤◌, ℕ, if◌then◌else◌, None, nat_eq};
 ghost use Rattle.wiring.specs.Counted.{count_of, table_of};
 ghost use Rattle.wiring.specs.Laws.{Extends};
 ghost use Rattle.wiring.specs.Steps.{Counts, Decide, Retract};
@@ -7,10 +7,8 @@ ghost use Rattle.wiring.specs.Steps.{Counts, Decide, Retract};
 use super::PartialWiring;
 use crate::choice::Choice;
 use crate::refusal::DecideRefusal;
-use crate::table::ChoiceTable;
-use places::set::PLACES;
-
-const NEEDS: u8 = 16;
+use arrayvec::ArrayVec;
+use shelf::limits::PLACES;
 
 impl PartialWiring {
     // Every need is open at first.
@@ -18,31 +16,23 @@ impl PartialWiring {
         ensures { (b k : ℕ) → table_of result b k ≡ None }
     {
         PartialWiring {
-            choices: ChoiceTable::new(),
-            decided: [0; 64],
+            rows: std::array::from_fn(|_| ArrayVec::new()),
         }
     }
 
     // How many needs of the place are decided.
-    pub fn count(&self, place: usize) -> u8
-        ensures { result ≡ count_of self.now place }
+    pub fn count(&self, place: usize) -> usize
+        ensures value { result ≡ count_of self.now place }
+        ensures few { result ≤ 16 }
     {
-        if place < PLACES {
-            self.decided[place]
-        } else {
-            0
-        }
+        self.rows.get(place).map_or(0, |row| row.len())
     }
 
     // The choice for a need, if it is decided.
     pub fn get(&self, place: usize, need: usize) -> Option<Choice>
         ensures { result ≡ table_of self.now place need }
     {
-        if need < usize::from(self.count(place)) {
-            Some(self.choices.get(place, need))
-        } else {
-            None
-        }
+        self.rows.get(place)?.as_slice().get(need).copied()
     }
 
     // Decides the first open need of the place.
@@ -53,25 +43,20 @@ impl PartialWiring {
         if place >= PLACES {
             return Err(DecideRefusal::NoSuchPlace);
         }
-        let count = self.decided[place];
-        if count >= NEEDS {
-            return Err(DecideRefusal::AllDecided);
-        }
-        self.choices.set(place, usize::from(count), choice);
-        self.decided[place] = count + 1;
-        Ok(())
+        self.rows[place]
+            .try_push(choice)
+            .map_err(|_| DecideRefusal::AllDecided)
     }
 
     // Opens the last decided need of the place again, and says what was chosen for it.
+    #[tactic(auto, using(crate::proofs::Rows::retracts))]
     pub fn retract(&mut self, place: usize) -> Option<Choice>
         ensures { Retract self.old place self.new result }
     {
-        let count = self.count(place);
-        if count == 0 || place >= PLACES {
+        if place >= PLACES {
             return None;
         }
-        self.decided[place] = count - 1;
-        Some(self.choices.get(place, usize::from(count - 1)))
+        self.rows[place].pop()
     }
 
     // Opens every need of the place again.
@@ -80,7 +65,7 @@ impl PartialWiring {
         ensures counts { Counts self.old place 0 self.new }
     {
         if place < PLACES {
-            self.decided[place] = 0;
+            self.rows[place].clear();
         }
     }
 }

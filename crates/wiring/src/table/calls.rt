@@ -5,10 +5,7 @@ ghost use Rattle.wiring.specs.Chosen.{chosen};
 
 use super::ChoiceTable;
 use crate::choice::Choice;
-use places::set::PLACES;
-
-// More needs than this no bundle has.
-const NEEDS: usize = 16;
+use shelf::limits::{NEEDS, PLACES};
 
 impl ChoiceTable {
     // Every need is unwired at first.
@@ -16,7 +13,7 @@ impl ChoiceTable {
         ensures { (b k : ℕ) → chosen result b k ≡ Choice.Unwired }
     {
         ChoiceTable {
-            choices: [Choice::Unwired; 1024],
+            rows: [[Choice::Unwired; NEEDS]; PLACES],
         }
     }
 
@@ -24,11 +21,11 @@ impl ChoiceTable {
     pub fn get(&self, place: usize, need: usize) -> Choice
         ensures { result ≡ chosen self.now place need }
     {
-        if place < PLACES && need < NEEDS {
-            self.choices[place * NEEDS + need]
-        } else {
-            Choice::Unwired
-        }
+        self.rows
+            .get(place)
+            .and_then(|row| row.get(need))
+            .copied()
+            .unwrap_or_default()
     }
 
     // Where the table has no cell, nothing is changed.
@@ -36,7 +33,7 @@ impl ChoiceTable {
         ensures { (b k : ℕ) → chosen self.new b k ≡ (if is_cell place need b k then choice else chosen self.old b k) }
     {
         if place < PLACES && need < NEEDS {
-            self.choices[place * NEEDS + need] = choice;
+            self.rows[place][need] = choice;
         }
     }
 
@@ -44,8 +41,8 @@ impl ChoiceTable {
     pub fn clear(&mut self, place: usize)
         ensures { (b k : ℕ) → chosen self.new b k ≡ (if nat_eq b place then Choice.Unwired else chosen self.old b k) }
     {
-        for need in 0..NEEDS {
-            self.set(place, need, Choice::Unwired);
+        if place < PLACES {
+            self.rows[place] = [Choice::Unwired; NEEDS];
         }
     }
 }

@@ -1,6 +1,6 @@
-use Rattle.wiring.specs.Chosen.{chosen}
-use Rattle.wiring.proofs.Counts.{open_fresh}
+use Rattle.std.proofs.Common.{rules, []}
+use Rattle.wiring.proofs.Rows.{empty_open}
 use Rattle.wiring.proofs.partial.PartialWiring.new.Goals as goal
 
 pub returns : goal.returns
-returns c = open_fresh (chosen c.new.result) 64
+returns c = empty_open c.from_fn.result 64 c.from_fn.ensures.items.long (λ b lt. let called = c.from_fn.ensures.items.at b (record { items = [] }) lt in let met = called.2.met in search rules)

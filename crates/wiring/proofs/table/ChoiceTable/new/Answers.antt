@@ -1,5 +1,8 @@
-use Rattle.wiring.proofs.Cells.{fresh}
+use Rattle.wiring.proofs.Cells.{fresh, fresh-full}
 use Rattle.wiring.proofs.table.ChoiceTable.new.Goals as goal
 
+pub invariant_of-result : goal.invariant_of-result
+invariant_of-result c = record { full = fresh-full 64 16 }
+
 pub returns : goal.returns
-returns c = fresh 1024
+returns c = fresh 64 16
