@@ -1,49 +1,61 @@
 -- Following a bucket from its last number to its first.
-use Rattle.std.proofs.Common.{◌≡◌, ℕ, ◌+◌, ◌-◌, ◌*◌, ◌%◌, ◌<◌, ◌≤◌, ◌⊎◌, List, length, get_or, drop, sym, refl, ap, ◌∙◌, inl, inr, add-one, arith, drop-cons}
+use Rattle.std.proofs.Common.{◌≡◌, ℕ, ◌+◌, ◌/◌, ◌%◌, ◌<◌, List, get_or, refl, inl, inr, Some, None, Option, MatchOption, arith}
+use Rattle.std.specs.Option.{IsSomeAnd}
 use Rattle.std.proofs.lemmas.Bool.{cases_order}
 use Rattle.shelf.specs.Meaning.{Name, Meaning}
-use Rattle.digest.specs.Index.{rolled, bucket_of, InBucket, Last, Indexed}
-use Rattle.digest.specs.Packages.{ExportOf, NumberOf}
+use Rattle.digest.specs.Index.{bucket_of, InBucket, Last, Indexed}
+use Rattle.digest.specs.Packages.{ExportOf, NumberOf, package_at}
+use Rattle.digest.proofs.Numbers.{same_package}
 
-pub roll_more : (h : ℕ) (q : Name) (i b : ℕ) (w : ℕ) → i < length q → b ≡ get_or q i 0 → rolled h (drop i q) ≡ w → rolled ((h * 33 + b) % 65536) (drop (i + 1) q) ≡ w
-roll_more h q i b w l e r = rw (e, add-one) (ap (rolled h) (sym (drop-cons q i 0 l)) ∙ r)
+some_and : {X : Type 0} (P : X → Type 0) (o : Option X) → IsSomeAnd o P → (x : X) × (o ≡ Some x) × P x
+some_and P None h = absurd h
+some_and P (Some x) h = (x, refl, h)
+
+-- how far down the numbers a link leads at most
+abbrev pub height : Option ℕ → ℕ
+height None = 0
+height (Some n) = n + 1
 
 module _ (m : Meaning) (bound : ℕ) (q : Name) where
   -- the numbers of the bucket from `at` on are not of q
-  pub record Seeking (at : ℕ) : Type 0 where
-    pub within : at ≤ bound
-    pub there : 0 < at → InBucket m (bucket_of q) (at - 1)
-    pub none : (i : ℕ) → at ≤ i → i < bound → NumberOf m q i → ⊥
+  abbrev pub Seeking : Option ℕ → Type 0
+  Seeking at =
+      MatchOption at ((i : ℕ) → i < bound → NumberOf m q i → ⊥)
+      (λ n. (n < bound) × IsSomeAnd (package_at m (n / 16) (n % 16)) (InBucket m (bucket_of q) n) × ((i : ℕ) → n < i → i < bound → NumberOf m q i → ⊥))
 
-  pub seek_first : (first next : List ℕ) → Indexed m bound first next → Seeking (get_or first (bucket_of q) 0)
-  seek_first first next x =
-      let l = x.firsts (bucket_of q) (omega arith) in
-      record { within = l.within; there = l.there; none = λ i h k f. l.none i h k (q, f, refl) }
+  pub seek_first : (r : Option ℕ) → Last m (bucket_of q) bound r → Seeking r
+  seek_first None l = λ i h f. l i q h (f, refl)
+  seek_first (Some n) (lt, there, none) = (lt, there, λ i a h f. none i q a h (f, refl))
 
-  module _ (first next : List ℕ) (x : Indexed m bound first next) (at : ℕ) (s : Seeking at) (some : 0 < at) where
-    chain : (w : InBucket m (bucket_of q) (at - 1)) → Last m (bucket_of q) (at - 1) (get_or next (at - 1) 0)
-    chain (p, f, e) = rw e at (x.nexts (at - 1) p (let b = s.within in omega arith) f)
+  module _ (first next : List (Option ℕ)) (x : Indexed m bound first next) (n : ℕ) (s : Seeking (Some n)) (z : Option ℕ) where
+    before : Last m (bucket_of q) n (get_or next n z)
+    before =
+        let (p, at, (f, e)) = some_and (InBucket m (bucket_of q) n) (package_at m (n / 16) (n % 16)) s.1 in
+        rw e at (x.nexts n p z s.0 f)
 
-    pub seek_less : get_or next (at - 1) 0 < at
-    seek_less = let l = (chain (s.there some)).within in omega arith
-
-    pub seek_more : (ExportOf m (at - 1) q → ⊥) → Seeking (get_or next (at - 1) 0)
-    seek_more not =
-        let l = chain (s.there some) in
-        let u = l.within in
-        let v = s.within in
-        record { within = omega arith; there = l.there; none = λ i h k f. after l i h k f (cases_order i (at - 1)) }
+    pub seek_less : height (get_or next n z) < height (Some n)
+    seek_less = go (get_or next n z) before
       where
-        after : (l : Last m (bucket_of q) (at - 1) (get_or next (at - 1) 0)) (i : ℕ) → get_or next (at - 1) 0 ≤ i → i < bound → NumberOf m q i → (i ≡ at - 1) ⊎ ((i < at - 1) ⊎ (at - 1 < i)) → ⊥
-        after l i h k f (inl e) = not (rw e at f.named)
-        after l i h k f (inr (inl b)) = l.none i h b (q, f, refl)
-        after l i h k f (inr (inr a)) = s.none i (omega arith) k f
+        go : (r : Option ℕ) → Last m (bucket_of q) n r → height r < n + 1
+        go None l = omega arith
+        go (Some k) l = omega (arith, l.0)
 
-    pub seek_found : ExportOf m (at - 1) q → NumberOf m q (at - 1)
-    seek_found n = found (s.there some)
+    pub seek_more : (ExportOf m n q → ⊥) → Seeking (get_or next n z)
+    seek_more not = go (get_or next n z) before
       where
-        open_name : (p : Name) → ExportOf m (at - 1) p → p ≡ q
-        open_name p e = cc
+        past : (i : ℕ) → (i < n → NumberOf m q i → ⊥) → i < bound → NumberOf m q i → ⊥
+        past i low h f = elim (cases_order i n) [
+          | inl e ↦ not (rw e at f.named)
+          | inr (inl b) ↦ low b f
+          | inr (inr a) ↦ s.2 i a h f
+        ]
 
-        found : InBucket m (bucket_of q) (at - 1) → NumberOf m q (at - 1)
-        found (p, f, e) = let w = open_name p f.named in rw w at f
+        go : (r : Option ℕ) → Last m (bucket_of q) n r → Seeking r
+        go None l = λ i h f. past i (λ b g. l i q b (g, refl)) h f
+        go (Some k) (lt, there, none) = (let b = s.0 in omega arith, there, λ i a h f. past i (λ b g. none i q a b (g, refl)) h f)
+
+    pub seek_found : ExportOf m n q → NumberOf m q n
+    seek_found e =
+        let (p, at, (f, same)) = some_and (InBucket m (bucket_of q) n) (package_at m (n / 16) (n % 16)) s.1 in
+        let is = same_package m n p q f.named e in
+        rw is at f

@@ -1,10 +1,10 @@
+pub mod Past
+pub mod Numbers
 pub mod Chains
 pub mod Filling
+pub mod Made
+pub mod Provided
 pub mod Gathering
-pub mod Past
-pub mod Cells
-pub mod Wanted
 pub mod Served
-pub mod Asked
-pub mod Offered
 pub mod Distinct
+pub mod Told

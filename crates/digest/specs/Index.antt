@@ -1,7 +1,7 @@
 -- Packages in buckets, by which numbers are found: for inner functions, no public contract cites this.
-use Rattle.std.specs.Prelude.{◌≡◌, ℕ, ◌+◌, ◌-◌, ◌*◌, ◌%◌, ◌<◌, ◌≤◌, List, [], ◌∷◌, length, Option, MatchOption, slice_index}
+use Rattle.std.specs.Prelude.{◌≡◌, ℕ, ◌+◌, ◌*◌, ◌/◌, ◌%◌, ◌<◌, List, [], ◌∷◌, IsSomeAnd, Option, MatchOption, slice_index_or}
 use Rattle.shelf.specs.Meaning.{Name, Meaning}
-use Rattle.digest.specs.Packages.{ExportOf, NumberOf}
+use Rattle.digest.specs.Packages.{NumberOf, package_at}
 
 abbrev pub rolled : ℕ → Name → ℕ
 rolled h [] = h
@@ -10,23 +10,20 @@ rolled h (b ∷ bs) = rolled ((h * 33 + b) % 65536) bs
 abbrev pub bucket_of : Name → ℕ
 bucket_of q = rolled 0 q % 256
 
--- n is the number of a package of that bucket
-abbrev pub InBucket : Meaning → ℕ → ℕ → Type 0
-InBucket m c n = (q : Name) × NumberOf m q n × (bucket_of q ≡ c)
+-- q has the number n and is in bucket c
+abbrev pub InBucket : Meaning → ℕ → ℕ → Name → Type 0
+InBucket m c n q = NumberOf m q n × (bucket_of q ≡ c)
 
--- r is one more than the last number before the bound in the bucket, or 0 where there is none
-pub record Last (m : Meaning) (c bound r : ℕ) : Type 0 where
-  pub within : r ≤ bound
-  pub there : 0 < r → InBucket m c (r - 1)
-  pub none : (i : ℕ) → r ≤ i → i < bound → InBucket m c i → ⊥
+-- r is the last number before the bound of a package in the bucket, if there is one
+abbrev pub Last : Meaning → ℕ → ℕ → Option ℕ → Type 0
+Last m c bound r =
+    MatchOption r ((i : ℕ) (q : Name) → i < bound → InBucket m c i q → ⊥)
+    (λ n. (n < bound) × IsSomeAnd (package_at m (n / 16) (n % 16)) (InBucket m c n) × ((i : ℕ) (q : Name) → n < i → i < bound → InBucket m c i q → ⊥))
 
 -- the buckets of the exports before the bound: for each its last number, and for each number the one before it in its bucket
-pub record Indexed (m : Meaning) (bound : ℕ) (first next : List ℕ) : Type 0 where
-  pub wide : length first ≡ 256
-  pub long : length next ≡ 1024
-  pub firsts : (c : ℕ) → c < 256 → Last m c bound (slice_index first c)
-  pub nexts : (n : ℕ) (q : Name) → n < bound → NumberOf m q n → Last m (bucket_of q) n (slice_index next n)
-  pub led : (i : ℕ) (q : Name) → i < bound → ExportOf m i q → (h : ℕ) × (h ≤ i) × NumberOf m q h
+pub record Indexed (m : Meaning) (bound : ℕ) (first next : List (Option ℕ)) : Type 0 where
+  pub firsts : (c : ℕ) (z : Option ℕ) → c < 256 → Last m c bound (slice_index_or first c z)
+  pub nexts : (n : ℕ) (q : Name) (z : Option ℕ) → n < bound → NumberOf m q n → Last m (bucket_of q) n (slice_index_or next n z)
 
 -- what looking up q among the numbers before the bound finds
 abbrev pub Finds : Meaning → ℕ → Name → Option ℕ → Type 0

@@ -1,7 +1,8 @@
 pub mod Packages
-pub mod Cells
 pub mod Index
+pub mod Each
+pub mod Providers
+pub mod Exporters
 pub mod Needs
-pub mod Offers
 pub mod View
 pub mod Laws

@@ -1,70 +1,141 @@
 // Finding the number of a package by its name.
-ghost use Rattle.std.specs.Prelude.{◌≡◌, ◌/◌, ◌%◌, ◌<◌, ◌≤◌, Decides};
+ghost use Rattle.std.specs.Prelude.{◌≡◌, ◌+◌, ◌/◌, ◌%◌, ◌<◌, ◌≤◌, Some, Decides, MatchOption};
 ghost use Rattle.std.specs.Option.{option_map};
-ghost use Rattle.shelf.specs.Meaning.{Meaning};
+ghost use Rattle.std.proofs.Props.{props};
+ghost use Rattle.shelf.specs.Meaning.{Name};
 ghost use Rattle.digest.specs.Index.{Finds, Indexed};
-ghost use Rattle.digest.specs.Packages.{ExportOf, package_at};
+ghost use Rattle.digest.specs.Packages.{ExportOf, NumberOf, Numbering, package_at};
 
 use crate::bucket::bucket;
-use crate::limits::EXPORTS;
-use shelf::lookup::same_name;
+use crate::limits::{ALL_EXPORTS, BUCKETS};
+use shelf::limits::EXPORTS;
 use shelf::shelf::Shelf;
+use text::bytes::same_text;
 
-// For each bucket the last number in it, and for each number the one before it in its bucket, both plus one; 0 ends a bucket.
+// The packages of the exports before `count`: for each bucket the last number in it, and for each number the one before it in its bucket.
+// The library's maps would need the heap.
 #[derive(Drop)]
-pub struct NameIndex {
-    pub first: [u16; 256],
-    pub next: [u16; 1024],
-}
-
-impl NameIndex {
-    // No package is in it at first.
-    pub(crate) fn new() -> NameIndex
-        ensures { (m : Meaning) → Indexed m 0 result.first result.next }
-    {
-        NameIndex {
-            first: [0; 256],
-            next: [0; 1024],
-        }
-    }
+pub struct Index<'s, S: Shelf> {
+    pub shelf: &'s S,
+    pub count: usize,
+    first: [Option<u16>; BUCKETS],
+    next: [Option<u16>; ALL_EXPORTS],
+    ghost few: { count ≤ 1024 },
+    ghost indexed: { Indexed (S.Shelf.meaning shelf.now) count first next } by { Prim.hlevel props },
 }
 
 // The package of export n, counted through.
-pub(crate) fn package<S: Shelf>(shelf: &S, n: usize) -> Option<&[u8]>
+fn package<S: Shelf>(shelf: &S, n: usize) -> Option<&[u8]>
     ensures { option_map (λ x. x.now) result ≡ package_at (S.Shelf.meaning shelf.now) (n / 16) (n % 16) }
 {
-    match shelf.export(n / EXPORTS, n % EXPORTS) {
-        Some(export) => Some(export.name),
-        None => None,
-    }
+    Some(shelf.export(n / EXPORTS, n % EXPORTS)?.name)
 }
 
 // Whether export n is of that package.
 fn is_of<S: Shelf>(shelf: &S, n: usize, name: &[u8]) -> bool
     ensures { Decides result (ExportOf (S.Shelf.meaning shelf.now) n name.now) }
 {
-    match package(shelf, n) {
-        Some(other) => same_name(other, name),
-        None => false,
+    package(shelf, n).is_some_and(|other| same_text(other, name))
+}
+
+impl<'s, S: Shelf> Index<'s, S> {
+    // No package is in it at first.
+    fn new(shelf: &'s S) -> Index<'s, S>
+        ensures { (result.shelf.now ≡ shelf.now) × (result.count ≡ 0) }
+    {
+        Index {
+            shelf,
+            count: 0,
+            first: [None; BUCKETS],
+            next: [None; ALL_EXPORTS],
+        }
+    }
+
+    // The number of the package among those before `count`.
+    fn find(&self, name: &[u8]) -> Option<u16>
+        ensures { Finds (S.Shelf.meaning self.now.shelf.now) self.now.count name.now result }
+    {
+        let mut at = self.first[bucket(name)];
+        while let Some(n) = at {
+            if is_of(self.shelf, n as usize, name) {
+                return Some(n);
+            }
+            at = self.next[n as usize];
+        }
+        None
+    }
+
+    // The package of the next export, if none before it is of that package.
+    fn fresh(&self) -> Option<&'s [u8]>
+        ensures { MatchOption result ((q : Name) → NumberOf (S.Shelf.meaning self.now.shelf.now) q self.now.count → ⊥) (λ q. NumberOf (S.Shelf.meaning self.now.shelf.now) q.now self.now.count) }
+    {
+        let name = package(self.shelf, self.count)?;
+        match self.find(name) {
+            Some(_) => None,
+            None => Some(name),
+        }
+    }
+
+    // Puts the next export into its bucket, as the first of its package.
+    fn link(&mut self, name: &[u8])
+        requires { (self.old.count < 1024) × NumberOf (S.Shelf.meaning self.old.shelf.now) name.now self.old.count }
+        ensures { (self.new.shelf.now ≡ self.old.shelf.now) × (self.new.count ≡ self.old.count + 1) }
+    {
+        let c = bucket(name);
+        self.next[self.count] = self.first[c];
+        self.first[c] = Some(self.count as u16);
+        self.count += 1;
+    }
+
+    // Takes in the next export.
+    fn insert(&mut self)
+        requires { self.old.count < 1024 }
+        ensures { (self.new.shelf.now ≡ self.old.shelf.now) × (self.new.count ≡ self.old.count + 1) }
+    {
+        match self.fresh() {
+            Some(name) => self.link(name),
+            None => self.count += 1,
+        }
+    }
+
+    // All exports of the shelf.
+    fn of(shelf: &'s S) -> Index<'s, S>
+        ensures { (result.shelf.now ≡ shelf.now) × (result.count ≡ 1024) }
+    {
+        let mut index = Index::new(shelf);
+        for _ in 0..ALL_EXPORTS {
+            index.insert();
+        }
+        index
     }
 }
 
-// The number of the package among those before the bound.
-pub(crate) fn lookup<S: Shelf>(
-    shelf: &S,
-    index: &NameIndex,
-    name: &[u8],
-    bound: usize,
-) -> Option<usize>
-    requires { (Indexed (S.Shelf.meaning shelf.now) bound index.now.first index.now.next) × (bound ≤ 1024) }
-    ensures { Finds (S.Shelf.meaning shelf.now) bound name.now result }
-{
-    let mut at = index.first[bucket(name)] as usize;
-    while at > 0 {
-        if is_of(shelf, at - 1, name) {
-            return Some(at - 1);
+// The packages of all exports.
+#[derive(Drop)]
+pub struct Names<'s, S: Shelf> {
+    index: Index<'s, S>,
+    ghost whole: { index.count ≡ 1024 },
+}
+
+impl<'s, S: Shelf> Names<'s, S> {
+    pub(crate) fn of(shelf: &'s S) -> Names<'s, S>
+        ensures { result.index.shelf.now ≡ shelf.now }
+    {
+        Names {
+            index: Index::of(shelf),
         }
-        at = index.next[at - 1] as usize;
     }
-    None
+
+    pub(crate) fn shelf(&self) -> &'s S
+        ensures { result.now ≡ self.now.index.shelf.now }
+    {
+        self.index.shelf
+    }
+
+    // The number of a package, if anybody exports it.
+    pub(crate) fn number(&self, name: &[u8]) -> Option<u16>
+        ensures { Numbering (S.Shelf.meaning self.now.index.shelf.now) (Some name.now) result }
+    {
+        self.index.find(name)
+    }
 }

@@ -2,18 +2,14 @@
 #![tactic(auto)]
 
 mod bucket;
-mod candidates;
 pub mod digest;
 mod exporters;
-mod fitting;
 mod index;
 pub mod laws;
 mod limits;
-mod number;
-mod offers;
-mod sets;
+mod need;
+mod needs;
+mod provider;
+mod providers;
 #[cfg(test)]
 mod tests;
-mod uses;
-pub mod want;
-mod wants;

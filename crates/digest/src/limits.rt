@@ -1,12 +1,7 @@
-// How much there is on a shelf at most, and so how many cells a digest has.
-pub const EXPORTS: usize = 16;
+// How many exports there are on a shelf at most. They are counted through, as many to each place as a bundle may have.
+use shelf::limits::{EXPORTS, PLACES};
 
-pub const NEEDS: usize = 16;
+pub const ALL_EXPORTS: usize = PLACES * EXPORTS;
 
-pub const USES: usize = 8;
-
-pub const ALL_EXPORTS: usize = 1024;
-
-pub const ALL_NEEDS: usize = 1024;
-
-pub const ALL_USES: usize = 8192;
+// How many buckets the names of packages fall into.
+pub const BUCKETS: usize = 256;

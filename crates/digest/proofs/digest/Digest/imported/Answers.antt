@@ -1,8 +1,10 @@
-use Rattle.shelf.specs.Meaning.{need_at}
+use Rattle.std.proofs.Common.{ap}
 use Rattle.digest.specs.Needs.{import_in}
-use Rattle.digest.proofs.Asked.{numbering}
+use Rattle.digest.proofs.Told.{numbering_as, unnumbered}
 use Rattle.digest.proofs.digest.Digest.imported.Goals as goal
 
+pub returns-in_err-need : goal.returns-in_err-need
+returns-in_err-need c = λ m controller d. unnumbered m _ _ (ap import_in (c.in_err-need.ensures m controller d)) c.from_residual.ensures
+
 pub returns : goal.returns
-returns c = λ m controller d.
-    rw c.numbered.ensures (numbering m d.formed (import_in (need_at m c.args.b c.args.k)) c.want.result.imports (c.want.ensures m controller d).imported)
+returns c = λ m controller d. let (n, there, need) = c.in_ok-need.ensures m controller d in numbering_as m _ _ _ _ (ap import_in there) c.widened.ensures need.imports

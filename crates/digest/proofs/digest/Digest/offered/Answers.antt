@@ -1,26 +1,40 @@
-use Rattle.std.proofs.Common.{◌≡◌, true, sym, ◌∙◌}
-use Rattle.shelf.specs.Meaning.{need_at}
-use Rattle.wiring.specs.Candidates.{candidate_at, offered_at}
-use Rattle.digest.proofs.Offered.{version-known}
-use Rattle.digest.proofs.Served.{served_absent, served_import, served_require}
+use Rattle.std.proofs.Common.{sym, ap, ◌∙◌}
+use Rattle.shelf.specs.Meaning.{bound}
+use Rattle.wiring.specs.Candidates.{offered}
+use Rattle.digest.proofs.Told.{never_absent, never_unnumbered, offers_import, offers_require, unserved}
 use Rattle.digest.proofs.digest.Digest.offered.Goals as goal
 
-pub returns-in-Absent : goal.returns-in-Absent
-returns-in-Absent c = λ m controller d.
-    let a = c.args in
-    let served : candidate_at m controller a.b a.k a.c ≡ true = sym (c.candidates.ensures m controller d a.c) ∙ sym c.contains.ensures.value ∙ c.if-not-contains.false in
-    absurd (served_absent m d.formed controller a.b a.c (need_at m a.b a.k) c.want-want.result (c.want-want.ensures m controller d) c.in-Absent.is served)
+pub returns-in_err-need : goal.returns-in_err-need
+returns-in_err-need c = λ m controller d. c.from_residual.ensures ∙ sym (ap (λ o. bound o (λ n. offered m controller c.args.b n c.args.c)) (c.in_err-need.ensures m controller d))
 
-pub returns-in-Import : goal.returns-in-Import
-returns-in-Import c = λ m controller d.
+pub returns-then-not-contains : goal.returns-then-not-contains
+returns-then-not-contains c = λ m controller d.
     let a = c.args in
-    let served : candidate_at m controller a.b a.k a.c ≡ true = sym (c.candidates.ensures m controller d a.c) ∙ sym c.contains.ensures.value ∙ c.if-not-contains.false in
-    let (q, f, x, is) = served_import m d.formed controller a.b a.c (need_at m a.b a.k) c.want-want.result (c.want-want.ensures m controller d) c.in-Import.is served in
-    c.version_of.ensures m controller q d f ∙ sym is
+    let (n, there, is) = c.in_ok-need.ensures m controller d in
+    unserved m d.formed controller a.b a.c n c.in_ok-need.need is (sym c.contains.ensures.value ∙ c.if-not-contains.true) ∙ sym (ap (λ o. bound o (λ n. offered m controller a.b n a.c)) there)
 
-pub returns-in-Require : goal.returns-in-Require
-returns-in-Require c = λ m controller d.
+pub returns-in_err-need-in-Import : goal.returns-in_err-need-in-Import
+returns-in_err-need-in-Import c = λ m controller d.
+    let (n, there, is) = c.in_ok-need.ensures m controller d in
+    absurd (never_unnumbered m d.formed controller c.args.b c.args.c n c.in_ok-need.need is (sym c.contains.ensures.value ∙ c.if-not-contains.false) c.in-Import.is c.in_err-need-in-Import.was)
+
+pub returns-in_err-provider-in-Require : goal.returns-in_err-provider-in-Require
+returns-in_err-provider-in-Require c = λ m controller d.
+    let (n, there, is) = c.in_ok-need.ensures m controller d in
+    absurd (never_absent m d.formed controller c.args.b c.args.c n c.in_ok-need.need is (sym c.contains.ensures.value ∙ c.if-not-contains.false) (c.in_err-provider-in-Require.ensures m controller d))
+
+pub returns-in_ok-need-in-Import : goal.returns-in_ok-need-in-Import
+returns-in_ok-need-in-Import c = λ m controller d.
     let a = c.args in
-    let served : candidate_at m controller a.b a.k a.c ≡ true = sym (c.candidates.ensures m controller d a.c) ∙ sym c.contains.ensures.value ∙ c.if-not-contains.false in
-    let is = served_require m d.formed controller a.b a.c (need_at m a.b a.k) c.want-want.result (c.want-want.ensures m controller d) c.in-Require.is served in
-    version-known m a.self.now.versions d.versions a.c (record { major = 0; minor = 0; micro = 0 }) (offered_at m controller a.b a.k a.c) (c.contains.ensures.below c.if-not-contains.false) is served
+    let (n, there, is) = c.in_ok-need.ensures m controller d in
+    offers_import m d.formed controller a.b a.c n c.in_ok-need.need is (sym c.contains.ensures.value ∙ c.if-not-contains.false) c.in_ok-need-in-Import.field-0 c.version_of.result
+    c.in-Import.is c.in_ok-need-in-Import.was (c.version_of.ensures m controller d)
+    ∙ sym (ap (λ o. bound o (λ n. offered m controller a.b n a.c)) there)
+
+pub returns-in_ok-provider-in-Require : goal.returns-in_ok-provider-in-Require
+returns-in_ok-provider-in-Require c = λ m controller d.
+    let a = c.args in
+    let (n, there, is) = c.in_ok-need.ensures m controller d in
+    let provider = c.in_ok-provider-in-Require.ensures m controller d in
+    offers_require m d.formed controller a.b a.c n c.in_ok-need.need is (sym c.contains.ensures.value ∙ c.if-not-contains.false) c.in-Require.field-0 _ c.in-Require.is provider.version
+    ∙ sym (ap (λ o. bound o (λ n. offered m controller a.b n a.c)) there)

@@ -1,21 +1,25 @@
-use Rattle.std.proofs.Common.{◌+◌, ◌*◌, ◌≤◌, ◌⊎◌, get_or, arith, rules}
-use Rattle.shelf.specs.Meaning.{used_at}
-use Rattle.digest.specs.Cells.{Says}
-use Rattle.digest.proofs.Asked.{at_use, numbering, numbering_none}
+use Rattle.std.proofs.Common.{ap, refl, inr}
+use Rattle.std.specs.List.{slice_get}
+use Rattle.shelf.specs.Meaning.{bound, used_at}
+use Rattle.digest.specs.Packages.{Numbering}
 use Rattle.digest.proofs.Past.{use_out}
+use Rattle.digest.proofs.Told.{got_item, got_past, numbering_as, unnumbered}
 use Rattle.digest.proofs.digest.Digest.used.Goals as goal
 
-pub returns-then-k-lt-USES : goal.returns-then-k-lt-USES
-returns-then-k-lt-USES c = λ m controller d.
-    let b = c.args.b in
-    let j = c.args.j in
-    let k = c.args.k in
-    let i = (b * 16 + j) * 8 + k in
-    let cell = get_or c.args.self.now.used i 0 in
-    rw c.numbered.ensures
-    (numbering m d.formed (used_at m b j k) cell (at_use (λ x y z. Says m (used_at m x y z) cell) b j k (omega arith) (omega arith) (d.used i (omega arith))))
+pub returns-in_err-export : goal.returns-in_err-export
+returns-in_err-export c = λ m controller d.
+    unnumbered m _ _ (ap (λ o. bound o (λ e. slice_get e.uses c.args.k)) (c.in_err-export.ensures m controller d)) c.from_residual.ensures
 
-pub returns-else-b-lt-PLACES : goal.returns-else-b-lt-PLACES
-returns-else-b-lt-PLACES c = λ m controller d.
-    let out : (64 ≤ c.args.b) ⊎ ((16 ≤ c.args.j) ⊎ (8 ≤ c.args.k)) = search rules in
-    numbering_none m _ (use_out m d.formed c.args.b c.args.j c.args.k out)
+pub returns-in_err-get : goal.returns-in_err-get
+returns-in_err-get c = λ m controller d.
+    let a = c.args in
+    let export = c.in_ok-export.ensures m controller d in
+    let past = got_past 8 (λ k u. Numbering m (used_at m a.b a.j k) u) c.in_ok-export.field-0.now.used a.k export.used c.in_err-get.ensures.lookup in
+    unnumbered m _ _ (use_out m d.formed a.b a.j a.k (inr (inr past))) c.from_residual-in_err-get.ensures
+
+pub returns : goal.returns
+returns c = λ m controller d.
+    let a = c.args in
+    let export = c.in_ok-export.ensures m controller d in
+    numbering_as m _ _ _ _ refl c.widened.ensures
+    (got_item 8 (λ k u. Numbering m (used_at m a.b a.j k) u) c.in_ok-export.field-0.now.used a.k export.used c.in_ok-get.field-0 c.in_ok-get.ensures.lookup)

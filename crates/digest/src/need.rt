@@ -1,0 +1,13 @@
+// What a digest says of a need.
+use places::set::PlaceSet;
+use shelf::need::{NeedKind, Resolution};
+
+// What it imports is the number of a package, none if nobody exports it or the need is no import.
+#[derive(Clone, Copy)]
+pub struct NeedDigest {
+    pub kind: NeedKind,
+    pub resolution: Resolution,
+    pub imports: Option<u16>,
+    pub own: bool,
+    pub candidates: PlaceSet,
+}

@@ -1,0 +1,45 @@
+// What each bundle provides.
+ghost use Rattle.digest.specs.Packages.{Numbering};
+ghost use Rattle.digest.specs.Providers.{ExportAt, ProviderAt, Providing};
+ghost use Rattle.shelf.specs.Meaning.{used_at};
+
+use crate::index::Names;
+use crate::provider::{ExportDigest, ProviderDigest};
+use shelf::limits::PLACES;
+use shelf::shelf::Shelf;
+use std::array;
+
+impl<'s, S: Shelf> Names<'s, S> {
+    // The number of the k-th package that export j of b uses.
+    fn use_digest(&self, b: usize, j: usize, k: usize) -> Option<u16>
+        ensures { Numbering (S.Shelf.meaning self.now.index.shelf.now) (used_at (S.Shelf.meaning self.now.index.shelf.now) b j k) result }
+    {
+        self.number(self.shelf().used(b, j, k)?)
+    }
+
+    fn export_digest(&self, b: usize, j: usize) -> Option<ExportDigest>
+        ensures { ExportAt (S.Shelf.meaning self.now.index.shelf.now) b j result }
+    {
+        let export = self.shelf().export(b, j)?;
+        Some(ExportDigest {
+            number: self.number(export.name)?,
+            version: export.version,
+            used: array::from_fn(|k| self.use_digest(b, j, k)),
+        })
+    }
+
+    fn provider_digest(&self, b: usize) -> Option<ProviderDigest>
+        ensures { ProviderAt (S.Shelf.meaning self.now.index.shelf.now) b result }
+    {
+        Some(ProviderDigest {
+            version: self.shelf().version(b)?,
+            exports: array::from_fn(|j| self.export_digest(b, j)),
+        })
+    }
+
+    pub(crate) fn providers(&self) -> [Option<ProviderDigest>; PLACES]
+        ensures { Providing (S.Shelf.meaning self.now.index.shelf.now) result }
+    {
+        array::from_fn(|b| self.provider_digest(b))
+    }
+}
