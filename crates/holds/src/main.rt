@@ -1,7 +1,7 @@
 // Which ranges hold which values: a line of standard input asks, a line of standard output answers.
 #![tactic(auto)]
 
-use query::answer::Answer;
+use query::answer::{Answer, Part};
 use query::line::without_line_feed;
 use query::tally::Tally;
 use std::io;
@@ -18,7 +18,7 @@ fn main(rt: HostRuntime) -> io::Result<()> {
         }
         let answer = Answer::to(without_line_feed(line.as_slice()));
         tally.count(&answer);
-        print_answer(&rt, number, answer)?;
+        print_answer(&rt, number, &answer)?;
     }
     let Tally {
         held,
@@ -30,13 +30,21 @@ fn main(rt: HostRuntime) -> io::Result<()> {
 }
 
 // A line that has no answer is told by its number.
-fn print_answer(rt: &HostRuntime, number: u64, answer: Answer<'_>) -> io::Result<()> {
-    if let Answer::Unread(_) = answer {
-        print!(rt; "line {number}: ")?;
+fn print_answer(
+    rt: &HostRuntime,
+    number: u64,
+    answer: &Result<Answer<'_>, Part>,
+) -> io::Result<()> {
+    match answer {
+        Ok(answer) => print_pieces(rt, answer),
+        Err(part) => println!(rt; "line {number}: {part}"),
     }
+}
+
+fn print_pieces(rt: &HostRuntime, answer: &Answer<'_>) -> io::Result<()> {
     let mut out = rt.stdout();
-    out.write_all(answer.subject())?;
-    out.write_all(answer.verb())?;
-    out.write_all(answer.object())?;
+    for piece in answer.pieces() {
+        out.write_all(piece)?;
+    }
     out.write_all(b"\n")
 }

@@ -1,5 +1,6 @@
 // What a line such as `version [1.0,2.0) 1.2.0` is answered.
-ghost use Rattle.std.specs.Prelude.{◌≡◌, ◌++◌};
+ghost use Rattle.std.specs.Prelude.{◌≡◌, [], ◌∷◌, map, Some, Ok};
+ghost use Rattle.kinds.specs.Order.{below_by};
 ghost use Rattle.query.specs.Answers.{answer_to, asked, failure, judged_as, object, subject, verb};
 ghost use Rattle.query.specs.Views.{said};
 
@@ -7,11 +8,12 @@ use kinds::controller::ControllerNumber;
 use kinds::kind::Readable;
 use kinds::range::Range;
 use kinds::version::Version;
+use std::fmt;
 use text::bytes::same_text;
 use text::pieces::Pieces;
 
-// The first part of a line that cannot be read.
-#[derive(Clone, Copy)]
+// Why a line has no answer: the first part of it that cannot be read.
+#[derive(Debug, Clone, Copy, PartialEq, Eq)]
 pub enum Part {
     Form,
     Kind,
@@ -26,15 +28,22 @@ pub struct Question<'a> {
     pub value: &'a [u8],
 }
 
+#[derive(Debug, Clone, Copy, PartialEq, Eq)]
+pub enum Verdict {
+    Holds,
+    LeavesOut,
+}
+
+// What was asked, and whether the range holds the value.
 #[derive(Clone, Copy)]
-pub enum Answer<'a> {
-    Holds(Question<'a>),
-    LeavesOut(Question<'a>),
-    Unread(Part),
+pub struct Answer<'a> {
+    pub question: Question<'a>,
+    pub verdict: Verdict,
 }
 
 // The answer, once the words are told apart.
-fn ask<'a>(kind: &[u8], question: Question<'a>) -> Answer<'a>
+#[tactic(auto, using(kinds::proofs::Orders::version_order, kinds::proofs::Orders::controller_order))]
+fn ask<'a>(kind: &[u8], question: Question<'a>) -> Result<Answer<'a>, Part>
     ensures { said result ≡ asked kind.now question.entry.range.now question.entry.value.now }
 {
     if same_text(kind, b"version") {
@@ -42,44 +51,41 @@ fn ask<'a>(kind: &[u8], question: Question<'a>) -> Answer<'a>
     } else if same_text(kind, b"controller") {
         judge::<ControllerNumber>(question)
     } else {
-        Answer::Unread(Part::Kind)
+        Err(Part::Kind)
     }
 }
 
 // The answer for values of one kind.
-fn judge<'a, K: Readable>(question: Question<'a>) -> Answer<'a>
-    ensures { said result ≡ judged_as K.Readable.reads K.Ordered.below question.entry.range.now question.entry.value.now }
+fn judge<'a, K: Readable>(question: Question<'a>) -> Result<Answer<'a>, Part>
+    ensures { said result ≡ judged_as K.FromText.reads (below_by K.cmp) question.entry.range.now question.entry.value.now }
 {
-    let Some(range) = Range::<K>::read(question.range) else {
-        return Answer::Unread(Part::Range);
-    };
-    let Some(value) = K::read(question.value) else {
-        return Answer::Unread(Part::Value);
-    };
-    if range.holds(&value) {
-        Answer::Holds(question)
+    let range = Range::<K>::read(question.range).ok_or(Part::Range)?;
+    let value = K::read(question.value).ok_or(Part::Value)?;
+    let verdict = if range.holds(&value) {
+        Verdict::Holds
     } else {
-        Answer::LeavesOut(question)
-    }
+        Verdict::LeavesOut
+    };
+    Ok(Answer { question, verdict })
 }
 
-impl Part {
-    // Why the line has no answer.
-    pub fn words(self) -> &'static [u8]
-        ensures { result.now ≡ failure self }
-    {
-        match self {
-            Part::Form => b"not a kind, a range and a value",
-            Part::Kind => b"the kind cannot be read",
-            Part::Range => b"the range cannot be read",
-            Part::Value => b"the value cannot be read",
-        }
+impl fmt::Display for Part {
+    ghost output = { λ part. Some (failure part) };
+
+    fn fmt<W: fmt::Write>(&self, f: &mut fmt::Formatter<W>) -> fmt::Result {
+        let words = match self {
+            Part::Form => "not a kind, a range and a value",
+            Part::Kind => "the kind cannot be read",
+            Part::Range => "the range cannot be read",
+            Part::Value => "the value cannot be read",
+        };
+        f.write_str(words)
     }
 }
 
 impl<'a> Answer<'a> {
     // The answer to a line, which is without its line feed.
-    pub fn to(line: &'a [u8]) -> Answer<'a>
+    pub fn to(line: &'a [u8]) -> Result<Answer<'a>, Part>
         ensures { said result ≡ answer_to line.now }
     {
         let mut words = Pieces::plain(line, b' ');
@@ -89,39 +95,19 @@ impl<'a> Answer<'a> {
             words.next(),
             words.next(),
         ) else {
-            return Answer::Unread(Part::Form);
+            return Err(Part::Form);
         };
         ask(kind, Question { range, value })
     }
 
-    // The answer is printed in three pieces, and this is the first: the range, if it could be read.
-    pub fn subject(self) -> &'a [u8]
-        ensures { result.now ≡ subject (said self.entry) }
+    // The three pieces that are printed for it, one after the other.
+    pub fn pieces(&self) -> [&'a [u8]; 3]
+        ensures { map (λ piece. piece.now) result ≡ subject (said (Ok self.now)) ∷ verb (said (Ok self.now)) ∷ object (said (Ok self.now)) ∷ [] }
     {
-        match self {
-            Answer::Holds(question) | Answer::LeavesOut(question) => question.range,
-            Answer::Unread(_) => b"",
-        }
-    }
-
-    // The second piece: what is the case.
-    pub fn verb(self) -> &'static [u8]
-        ensures { result.now ≡ verb (said self.entry) }
-    {
-        match self {
-            Answer::Holds(_) => b" holds ",
-            Answer::LeavesOut(_) => b" leaves out ",
-            Answer::Unread(part) => part.words(),
-        }
-    }
-
-    // The third piece: the value, if it could be read.
-    pub fn object(self) -> &'a [u8]
-        ensures { result.now ≡ object (said self.entry) }
-    {
-        match self {
-            Answer::Holds(question) | Answer::LeavesOut(question) => question.value,
-            Answer::Unread(_) => b"",
+        let Question { range, value } = self.question;
+        match self.verdict {
+            Verdict::Holds => [range, b" holds ", value],
+            Verdict::LeavesOut => [range, b" leaves out ", value],
         }
     }
 }

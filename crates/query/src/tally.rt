@@ -2,7 +2,7 @@
 ghost use Rattle.std.specs.Prelude.{◌≡◌, ◌+◌, ◌-◌, ◌^◌, min};
 ghost use Rattle.query.specs.Views.{counted, said};
 
-use crate::answer::Answer;
+use crate::answer::{Answer, Part, Verdict};
 
 #[derive(Clone, Copy)]
 pub struct Tally {
@@ -23,13 +23,23 @@ impl Tally {
     }
 
     // Counts one answer more; a count stays at the largest number.
-    pub fn count(&mut self, answer: &Answer<'_>)
+    pub fn count(&mut self, answer: &Result<Answer<'_>, Part>)
         ensures { self.new ≡ counted (said answer.now) self.old }
     {
         match answer {
-            Answer::Holds(_) => self.held = self.held.saturating_add(1),
-            Answer::LeavesOut(_) => self.left_out = self.left_out.saturating_add(1),
-            Answer::Unread(_) => self.unread = self.unread.saturating_add(1),
+            Ok(
+                Answer {
+                    verdict: Verdict::Holds,
+                    ..
+                },
+            ) => self.held = self.held.saturating_add(1),
+            Ok(
+                Answer {
+                    verdict: Verdict::LeavesOut,
+                    ..
+                },
+            ) => self.left_out = self.left_out.saturating_add(1),
+            Err(_) => self.unread = self.unread.saturating_add(1),
         }
     }
 
