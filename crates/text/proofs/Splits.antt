@@ -29,10 +29,10 @@ none-step : (quotes : Bool) (sep x : ℕ) (xs : List ℕ) (here now : Bool)
 none-step quotes sep x xs true now h more = absurd (omega arith)
 none-step quotes sep x xs false now h more = ap (on_first x) (more (omega arith))
 
-pub split-none : (quotes : Bool) (sep : ℕ) (inside : Bool) (xs : List ℕ) → length xs ≤ reach quotes sep inside xs → split quotes sep inside xs ≡ xs ∷ []
-split-none quotes sep inside [] h = refl
-split-none quotes sep inside (x ∷ xs) h =
-    none-step quotes sep x xs (eqb x sep && not inside) (turned quotes inside x) h (split-none quotes sep (turned quotes inside x) xs)
+pub split_none : (quotes : Bool) (sep : ℕ) (inside : Bool) (xs : List ℕ) → length xs ≤ reach quotes sep inside xs → split quotes sep inside xs ≡ xs ∷ []
+split_none quotes sep inside [] h = refl
+split_none quotes sep inside (x ∷ xs) h =
+    none-step quotes sep x xs (eqb x sep && not inside) (turned quotes inside x) h (split_none quotes sep (turned quotes inside x) xs)
 
 -- as the code cuts: the first piece is `&text[..n]`, and the rest `&text[n + 1..]`
 pub split_at : (quotes : Bool) (sep n : ℕ) (xs : List ℕ) → n ≡ reach quotes sep false xs → n < length xs
@@ -75,9 +75,9 @@ rejoin_step quotes sep x xs true true e more =
 rejoin_step quotes sep x xs false now e more =
     on_first-rejoined sep x (split quotes sep (turned quotes now x) xs) xs (some-piece quotes sep (turned quotes now x) xs) (more (turned quotes now x))
 
-pub split-rejoined : (quotes : Bool) (sep : ℕ) (inside : Bool) (xs : List ℕ) → rejoined sep (split quotes sep inside xs) ≡ xs
-split-rejoined quotes sep inside [] = refl
-split-rejoined quotes sep inside (x ∷ xs) = rejoin_step quotes sep x xs (eqb x sep) inside refl (λ now. split-rejoined quotes sep now xs)
+pub split_rejoined : (quotes : Bool) (sep : ℕ) (inside : Bool) (xs : List ℕ) → rejoined sep (split quotes sep inside xs) ≡ xs
+split_rejoined quotes sep inside [] = refl
+split_rejoined quotes sep inside (x ∷ xs) = rejoin_step quotes sep x xs (eqb x sep) inside refl (λ now. split_rejoined quotes sep now xs)
 
 -- where quotes do not count, no piece has the separator in it
 abbrev Apart : ℕ → List (List ℕ) → Type 0
@@ -92,9 +92,9 @@ apart-step : (sep x : ℕ) (xs : List ℕ) (same : Bool) → eqb x sep ≡ same 
 apart-step sep x xs true e more = (refl, more)
 apart-step sep x xs false e more = on_first-apart sep x (split false sep false xs) e more
 
-pub parts-apart : (sep : ℕ) (xs : List ℕ) → Apart sep (split false sep false xs)
-parts-apart sep [] = (refl, tt)
-parts-apart sep (x ∷ xs) = apart-step sep x xs (eqb x sep) refl (parts-apart sep xs)
+pub parts_apart : (sep : ℕ) (xs : List ℕ) → Apart sep (split false sep false xs)
+parts_apart sep [] = (refl, tt)
+parts_apart sep (x ∷ xs) = apart-step sep x xs (eqb x sep) refl (parts_apart sep xs)
 
 -- no piece has a separator in it that counts: for the first, from where the text begins; for the others, from outside quotes
 abbrev Whole : Bool → ℕ → Bool → List ℕ → Type 0
@@ -124,5 +124,5 @@ split-whole : (quotes : Bool) (sep : ℕ) (inside : Bool) (xs : List ℕ) → Wh
 split-whole quotes sep inside [] = (refl, tt)
 split-whole quotes sep inside (x ∷ xs) = whole-step quotes sep inside x xs (eqb x sep && not inside) refl (λ now. split-whole quotes sep now xs)
 
-pub split-apart : (quotes : Bool) (sep : ℕ) (xs : List ℕ) → AllByRecursion (λ p. reach quotes sep false p ≡ length p) (split quotes sep false xs)
-split-apart quotes sep xs = wholes_all quotes sep (split quotes sep false xs) (split-whole quotes sep false xs)
+pub split_apart : (quotes : Bool) (sep : ℕ) (xs : List ℕ) → AllByRecursion (λ p. reach quotes sep false p ≡ length p) (split quotes sep false xs)
+split_apart quotes sep xs = wholes_all quotes sep (split quotes sep false xs) (split-whole quotes sep false xs)

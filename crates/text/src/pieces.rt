@@ -7,6 +7,7 @@ ghost use Rattle.std.specs.Iterator.{YieldsFirstRef, item_count};
 ghost use Rattle.text.specs.Splitting.{Finds, parts, reach, rejoined, split};
 
 // A cursor over the pieces that are left; a text has one piece more than it has separators.
+// The library's `split` does not serve: it minds no quotes, and no result can name its closure's type.
 #[derive(Clone, Copy)]
 pub struct Pieces<'a> {
     rest: Option<&'a [u8]>,
@@ -16,6 +17,7 @@ pub struct Pieces<'a> {
 
 impl<'a> Pieces<'a> {
     // The parts between the separators, wherever they stand.
+    #[tactic(auto, using(crate::proofs::Splits::split_rejoined, crate::proofs::Splits::parts_apart))]
     pub fn plain(text: &'a [u8], separator: u8) -> Pieces<'a>
         ensures pieces { left result ≡ parts separator text.now }
         ensures whole { rejoined separator (left result) ≡ text.now }
@@ -29,6 +31,7 @@ impl<'a> Pieces<'a> {
     }
 
     // The pieces between the separators that stand outside double quotes.
+    #[tactic(auto, using(crate::proofs::Splits::split_rejoined, crate::proofs::Splits::split_apart))]
     pub fn outside_quotes(text: &'a [u8], separator: u8) -> Pieces<'a>
         ensures pieces { left result ≡ split true separator false text.now }
         ensures whole { rejoined separator (left result) ≡ text.now }
@@ -58,6 +61,7 @@ impl<'a> Iterator for Pieces<'a> {
 }
 
 // The first piece and what follows its separator, if there is one.
+#[tactic(auto, using(crate::proofs::Splits::split_at, crate::proofs::Splits::split_none))]
 fn first_piece(text: &[u8], separator: u8, quotes: bool) -> (&[u8], Option<&[u8]>)
     ensures { split quotes separator false text.now ≡ result.0.now ∷ left_of quotes separator result.1 }
 {
@@ -67,7 +71,8 @@ fn first_piece(text: &[u8], separator: u8, quotes: bool) -> (&[u8], Option<&[u8]
     }
 }
 
-// Where the first separator stands, if there is one; with `quotes`, those inside double quotes do not count.
+// Where the first separator stands, if there is one; with `quotes`, those inside double quotes do not count. One function with a flag,
+// since one definition, `reach`, cuts both ways.
 pub fn find(text: &[u8], separator: u8, quotes: bool) -> Option<usize>
     ensures { Finds (reach quotes separator false text.now) (length text.now) result }
 {
