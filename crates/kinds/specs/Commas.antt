@@ -6,7 +6,7 @@ use Rattle.std.specs.Option.{option_map}
 use Rattle.std.proofs.lemmas.Bool.Decides.{nat_tests}
 use Rattle.text.specs.Bytes.{digit, word, every, lacks}
 use Rattle.text.specs.Splitting.{parts, rejoined}
-use Rattle.text.proofs.Splits.{split-rejoined}
+use Rattle.text.proofs.Splits.{split_rejoined}
 use Rattle.kinds.specs.declared.controller.ControllerNumber.{ControllerNumber}
 use Rattle.kinds.specs.declared.version.Version.{Version}
 use Rattle.kinds.specs.Controller.{controller, numbered as controller_of}
@@ -69,4 +69,4 @@ version-lacks text v e =
     let read = passed (closes (drop 3 ps)) (numbered (front ps) (front (drop 1 ps)) (front (drop 2 ps))) v e in
     let n = all-numbered (front ps) (front (drop 1 ps)) (front (drop 2 ps)) v read.1 in
     let P : List ℕ → Type 0 = λ t. lacks 44 t ≡ true in
-    subst P (split-rejoined false 46 false text) (joined_lacks ps (parts_lack ps n.0 n.1 n.2 read.0 n.3 n.4 n.5))
+    subst P (split_rejoined false 46 false text) (joined_lacks ps (parts_lack ps n.0 n.1 n.2 read.0 n.3 n.4 n.5))

@@ -1,4 +1,5 @@
 pub mod Order
+pub mod Orders
 pub mod Number
 pub mod Version
 pub mod Controller

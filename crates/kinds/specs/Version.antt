@@ -1,6 +1,6 @@
 -- Versions: which of two is the lower, and what a text reads as.
-use Rattle.std.specs.Prelude.{ℕ, Bool, true, false, cond, ◌&&◌, ◌||◌, List, [], ◌∷◌, length, drop, Some, None, Option, ◌==◌, nat_lt}
-use Rattle.text.specs.Bytes.{every, word}
+use Rattle.std.specs.Prelude.{ℕ, Bool, true, false, cond, ◌&&◌, ◌||◌, List, [], ◌∷◌, drop, Some, None, Option, ◌==◌, nat_lt}
+use Rattle.text.specs.Bytes.{is_word}
 use Rattle.text.specs.Splitting.{parts}
 use Rattle.kinds.specs.declared.version.Version.{Version}
 use Rattle.kinds.specs.Number.{number}
@@ -19,7 +19,7 @@ front (part ∷ parts) = number part
 -- what may follow the three numbers: nothing, or one qualifier of letters, digits, `_` and `-`, at least one
 abbrev pub closes : List (List ℕ) → Bool
 closes [] = true
-closes (qualifier ∷ []) = nat_lt 0 (length qualifier) && every word qualifier
+closes (qualifier ∷ []) = is_word qualifier
 closes (qualifier ∷ (fifth ∷ more)) = false
 
 abbrev pub numbered : Option ℕ → Option ℕ → Option ℕ → Option Version

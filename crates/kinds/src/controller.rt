@@ -14,7 +14,7 @@ use std::fmt;
 pub struct ControllerNumber(pub u16);
 
 impl ControllerNumber {
-    // Whether this is the lower of two numbers.
+    // The library's `<`, in the words of the rules: the lower of two numbers.
     pub fn is_below(&self, other: &ControllerNumber) -> bool
         ensures { result ≡ before self.now other.now }
     {

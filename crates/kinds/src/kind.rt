@@ -5,6 +5,7 @@ ghost use Rattle.kinds.specs.Order.{Trichotomy, below_by};
 ghost use Rattle.text.specs.Bytes.{lacks};
 
 // What can be read from text; a missing text stands for something too.
+// Not the library's `TryFrom<&[u8]>`, since the laws of a kind name what a text reads as.
 pub trait FromText: Sized {
     // what a missing text stands for
     ghost missing: { Self };
@@ -12,6 +13,7 @@ pub trait FromText: Sized {
     // what a text reads as, if it reads at all
     ghost reads: { List ℕ → Option Self };
 
+    // Not `Default`'s, which tells a default by a relation: the laws of a kind name what is missing.
     fn missing() -> Self
         ensures { result ≡ missing };
 

@@ -4,7 +4,9 @@
 pub mod controller;
 pub mod examples;
 pub mod kind;
+pub mod laws;
 pub mod number;
 pub mod range;
+#[cfg(test)]
 mod tests;
 pub mod version;

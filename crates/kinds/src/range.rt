@@ -14,6 +14,7 @@ use std::fmt;
 use text::pieces::find;
 
 // Where a range ends, on either side: with that value itself in it, or without.
+// Not the library's `Bound`, since no text says an unbounded end.
 #[derive(Clone, Copy, Debug, PartialEq, Eq)]
 pub enum End<K> {
     Included(K),
@@ -76,6 +77,7 @@ impl<K: Readable> FromText for Range<K> {
     }
 }
 
+// Written out, since no derive serves a variant with a field.
 impl<K: Readable> Default for Range<K> {
     ghost is_default = { λ r. r ≡ AtLeast K.FromText.missing };
 
@@ -136,7 +138,8 @@ fn read_between<K: Readable>(floor: &[u8], ceiling: &[u8]) -> Option<Range<K>>
     Some(Range::Between(floor, ceiling))
 }
 
-// An end after its bracket: of a side's two, the square one includes the value, and the round one does not.
+// An end after its bracket: of a side's two, the square one includes the value, and the round one does not. They are no struct, since
+// they are bytes here and characters where they are printed.
 fn read_end<K: Readable>(bracket: u8, square: u8, round: u8, value: &[u8]) -> Option<End<K>>
     ensures { result ≡ end_of (bracketing square round bracket) (K.FromText.reads value.now) }
 {

@@ -9,7 +9,7 @@ ghost use Rattle.kinds.specs.Printed.{version_text};
 use crate::kind::{FromText, Readable};
 use crate::number::read_u16;
 use std::fmt;
-use text::bytes::is_word_text;
+use text::bytes::is_word;
 use text::pieces::Pieces;
 
 // Three numbers that compare in this order.
@@ -21,7 +21,7 @@ pub struct Version {
 }
 
 impl Version {
-    // Whether this is the lower of two versions: the order of the fields is that of versions.
+    // The library's `<`, in the words of the rules: the lower by major, then by minor, then by micro.
     pub fn is_below(&self, other: &Version) -> bool
         ensures { result ≡ lower self.now other.now }
     {
@@ -72,10 +72,7 @@ fn next_number(parts: &mut Pieces<'_>) -> Option<u16>
     ensures value { result ≡ front (left parts.old) }
     ensures rest { left parts.new ≡ drop 1 (left parts.old) }
 {
-    match parts.next() {
-        Some(part) => read_u16(part),
-        None => Some(0),
-    }
+    parts.next().map_or(Some(0), read_u16)
 }
 
 // Whether nothing follows the three numbers but perhaps a qualifier.
@@ -85,5 +82,5 @@ fn is_closed(mut parts: Pieces<'_>) -> bool
     let Some(qualifier) = parts.next() else {
         return true;
     };
-    parts.next().is_none() && !qualifier.is_empty() && is_word_text(qualifier)
+    parts.next().is_none() && is_word(qualifier)
 }
