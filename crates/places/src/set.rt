@@ -3,7 +3,7 @@ ghost use Rattle.std.specs.Prelude.{◌≡◌, ℕ, ◌<◌, ◌≤◌, true, fa
 ghost use Rattle.places.specs.Members.{only};
 ghost use Rattle.places.specs.Sets.{has, rank, Lowest};
 
-// More places than this no shelf has.
+// The most places that a shelf may have.
 pub const PLACES: usize = 64;
 
 #[derive(Clone, Copy, PartialEq, Eq, Debug, Default)]
@@ -52,6 +52,7 @@ impl PlaceSet {
         ensures value { (p : ℕ) → has self.new p ≡ (has self.old p && not (only place p)) }
         ensures falls { has self.old place ≡ true → rank self.new < rank self.old }
     {
+        // Not `&=` on the field: tried, and the goals of both clauses stay open without the local.
         let bits = self.0;
         if place < PLACES {
             self.0 = bits & !(1 << place);
@@ -83,7 +84,7 @@ impl PlaceSet {
         self.0 == 0
     }
 
-    // Whether the two have the same places.
+    // The library's `==`, in the words of the definitions: whether the two have the same places.
     pub fn is_same(self, other: PlaceSet) -> bool
         ensures { Decides result ((p : ℕ) → has self p ≡ has other p) }
     {

@@ -19,8 +19,7 @@ impl<'a, T: Copy> Stack<'a, T> {
     pub fn as_slice(&self) -> &[T]
         ensures { result.now ≡ held self.now }
     {
-        let cells: &[T] = &*self.cells;
-        &cells[0..self.len]
+        &self.cells[..self.len]
     }
 
     pub fn len(&self) -> usize
@@ -40,6 +39,7 @@ impl<'a, T: Copy> Stack<'a, T> {
         ensures pushed { Pushed self.old «record» self.new result }
         ensures room { room self.new ≡ room self.old }
     {
+        // Not by `get_mut`: tried, and what the cells are after it is not known.
         let at = self.len;
         if at >= self.cells.len() {
             return Err(PushRefusal::Full);
