@@ -1,7 +1,7 @@
 -- What is refused, and the number of the refusal.
 use Rattle.std.specs.Prelude.{◌≡◌, ℕ, ◌<◌, ◌≤◌, Result, MatchResult}
-use Rattle.shelf.specs.declared.refusal.FillRefusal.{FillRefusal}
-use Rattle.shelf.specs.declared.refusal.FillRefusal.TheVariants.{LimitBroken}
+use Rattle.shelf.specs.declared.refusal.PlainRefusal.{PlainRefusal}
+use Rattle.shelf.specs.declared.refusal.PlainRefusal.TheVariants.{LimitBroken}
 use Rattle.shelf.specs.declared.refusal.HideRefusal.{HideRefusal}
 use Rattle.shelf.specs.declared.refusal.HideRefusal.TheVariants.{NoSuchPlace}
 use Rattle.shelf.specs.Meaning.{Meaning, WellFormed}
@@ -14,5 +14,5 @@ abbrev pub HideAnswer : {T : Type 0} → ℕ → Result T HideRefusal → Type 0
 HideAnswer place r = MatchResult r (λ _. place < 64) (λ e. (64 ≤ place) × (hide_number e ≡ 29))
 
 -- why plain values are refused: they break a limit; it has no number
-abbrev pub FillRefused : FillRefusal → Meaning → Type 0
-FillRefused LimitBroken m = WellFormed m → ⊥
+abbrev pub PlainRefused : PlainRefusal → Meaning → Type 0
+PlainRefused LimitBroken m = WellFormed m → ⊥

@@ -13,7 +13,8 @@ use kinds::controller::ControllerNumber;
 use kinds::range::Range;
 use kinds::version::Version;
 
-// A hidden place reads as absent, every other as below; the count stays.
+// A hidden place reads as absent, every other as below; the count stays. Flags and not a `PlaceSet`, since the rule of hiding speaks of a list of flags,
+// and goes through it beside the list of places.
 #[derive(Drop)]
 pub struct Hide<S> {
     below: S,
@@ -46,7 +47,7 @@ impl<S: Shelf> Hide<S> {
         self.mark(place, false)
     }
 
-    // The flag of one place is changed, no other.
+    // The flag of one place is changed, no other. Not by `get_mut`: tried, and what the flags are after it is not known.
     #[tactic(auto, using(std::proofs::lemmas::List::set_past))]
     fn mark(&mut self, place: usize, flag: bool) -> Result<(), HideRefusal>
         ensures below { self.new.below ≡ self.old.below }
@@ -72,11 +73,7 @@ impl<S: Shelf> Hide<S> {
     fn shown(&self, place: usize) -> Option<&S>
         ensures { let below = S.Shelf.meaning self.now.below in let above = hidden_by self.now.hidden below in MatchOption result (bundle_at above place ≡ None) (λ s. (s.now ≡ self.now.below) × (bundle_at above place ≡ bundle_at below place)) }
     {
-        if self.is_hidden(place) {
-            None
-        } else {
-            Some(&self.below)
-        }
+        (!self.is_hidden(place)).then_some(&self.below)
     }
 }
 

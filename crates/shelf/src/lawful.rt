@@ -1,5 +1,5 @@
 // Whether plain values keep the limits of a shelf.
-ghost use Rattle.std.specs.Prelude.{◌≡◌, ◌≤◌, map, length, All, IfSome, Decides};
+ghost use Rattle.std.specs.Prelude.{◌≤◌, map, length, All, IfSome, Decides};
 ghost use Rattle.std.specs.Option.{option_map};
 ghost use Rattle.shelf.specs.Lent.{need_of};
 ghost use Rattle.shelf.specs.Limits.{BarsNeed, SameExport};
@@ -13,19 +13,19 @@ use crate::values::{PlainBundle, PlainExport};
 use text::bytes::same_text;
 
 // No package twice.
-impl<'a> Listed for PlainExport<'a> {
+impl Listed for PlainExport<'_> {
     ghost barred = { λ e f. SameExport (export_meant e) (export_meant f) };
 
-    fn bars(&self, later: &PlainExport<'a>) -> bool {
+    fn bars(&self, later: &Self) -> bool {
         same_text(self.name, later.name)
     }
 }
 
 // No name twice among imports or among requires, and no import after a require.
-impl<'a> Listed for Need<'a> {
+impl Listed for Need<'_> {
     ghost barred = { λ a b. BarsNeed (need_of a) (need_of b) };
 
-    fn bars(&self, later: &Need<'a>) -> bool {
+    fn bars(&self, later: &Self) -> bool {
         match (self.kind, later.kind) {
             (NeedKind::Import, NeedKind::Import) | (NeedKind::Require(_), NeedKind::Require(_)) =>
                 same_text(self.name, later.name),

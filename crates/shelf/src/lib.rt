@@ -11,6 +11,7 @@ pub mod need;
 pub mod plain;
 pub mod reference;
 pub mod refusal;
+pub mod samples;
 pub mod shelf;
 #[cfg(test)]
 mod tests;

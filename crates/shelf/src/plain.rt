@@ -4,12 +4,12 @@ ghost use Rattle.std.specs.Option.{option_map};
 ghost use Rattle.shelf.specs.Kept.{kept};
 ghost use Rattle.shelf.specs.Meaning.{WellFormed, bundle_at, export_at};
 ghost use Rattle.shelf.specs.Plain.{bundle_meant, export_meant, meant};
-ghost use Rattle.shelf.specs.Refusal.{FillRefused};
+ghost use Rattle.shelf.specs.Refusal.{PlainRefused};
 
 use crate::export::Export;
 use crate::lawful::within_limits;
 use crate::need::Need;
-use crate::refusal::FillRefusal;
+use crate::refusal::PlainRefusal;
 use crate::shelf::Shelf;
 use crate::values::{PlainBundle, PlainExport};
 use kinds::controller::ControllerNumber;
@@ -31,14 +31,14 @@ impl<'a> PlainShelf<'a> {
     }
 
     // A shelf of these places, unless they break a limit.
-    pub fn new(places: &'a [Option<PlainBundle<'a>>]) -> Result<PlainShelf<'a>, FillRefusal>
-        ensures granted { MatchResult result (λ _. WellFormed (meant places.now)) (λ e. FillRefused e (meant places.now)) }
-        ensures filled { IfOk result (λ s. s.places.now ≡ places.now) }
+    pub fn new(places: &'a [Option<PlainBundle<'a>>]) -> Result<PlainShelf<'a>, PlainRefusal>
+        ensures granted { MatchResult result (λ _. WellFormed (meant places.now)) (λ e. PlainRefused e (meant places.now)) }
+        ensures places { IfOk result (λ s. s.places.now ≡ places.now) }
     {
         if within_limits(places) {
             Ok(PlainShelf { places })
         } else {
-            Err(FillRefusal::LimitBroken)
+            Err(PlainRefusal::LimitBroken)
         }
     }
 
@@ -57,7 +57,7 @@ impl<'a> PlainShelf<'a> {
     }
 }
 
-impl<'a> Shelf for PlainShelf<'a> {
+impl Shelf for PlainShelf<'_> {
     ghost meaning = { λ s. meant s.places.now };
 
     ghost formed = { λ s. kept (meant s.places.now) s.lawful };

@@ -19,6 +19,6 @@ impl HideRefusal {
 
 // Why plain values make no shelf.
 #[derive(Clone, Copy, PartialEq, Eq, Debug)]
-pub enum FillRefusal {
+pub enum PlainRefusal {
     LimitBroken,
 }

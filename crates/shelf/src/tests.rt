@@ -4,22 +4,17 @@ ghost use Rattle.shelf.specs.Looked.{Found};
 ghost use Rattle.shelf.specs.Plain.{meant};
 
 use crate::hide::Hide;
-use crate::lookup::{export_named, is_named, is_own_import};
+use crate::lookup::At;
 use crate::need::{Need, NeedKind, Resolution};
 use crate::plain::PlainShelf;
-use crate::refusal::{FillRefusal, HideRefusal};
+use crate::refusal::{HideRefusal, PlainRefusal};
+use crate::samples::ONE;
 use crate::shelf::Shelf;
 use crate::values::{PlainBundle, PlainExport};
 use kinds::controller::ControllerNumber;
 use kinds::range::Range;
 use kinds::version::Version;
 use std::test::Fail;
-
-const ONE: Version = Version {
-    major: 1,
-    minor: 0,
-    micro: 0,
-};
 
 const FROM_ONE: Range<Version> = Range::AtLeast(ONE);
 
@@ -57,10 +52,10 @@ const BASE: PlainBundle<'static> = PlainBundle {
     needs: &[NEEDS_NET, NEEDS_TIME],
 };
 
-const BASE_SECOND: &'static [Option<PlainBundle<'static>>] = &[None, Some(BASE)];
+const BASE_SECOND: &[Option<PlainBundle<'static>>] = &[None, Some(BASE)];
 
 // As many names as a bundle may have imports, and one more.
-const NAMES: [&'static [u8]; 17] = [
+const NAMES: [&[u8]; 17] = [
     b"net", b"time", b"c", b"d", b"e", b"f", b"g", b"h", b"i", b"j", b"k", b"l", b"m", b"n", b"o",
     b"p", b"q",
 ];
@@ -70,35 +65,39 @@ const TWICE: PlainBundle<'static> = PlainBundle {
     ..BASE
 };
 
-const TWICE_ALONE: &'static [Option<PlainBundle<'static>>] = &[Some(TWICE)];
+const TWICE_ALONE: &[Option<PlainBundle<'static>>] = &[Some(TWICE)];
 
 // The client at three shelves: its contract follows at each with no proof of its own.
 fn at_plain(shelf: &PlainShelf<'_>, place: usize, name: &[u8]) -> Option<usize>
     ensures { Found (meant shelf.now.places.now) place name.now result }
 {
-    export_named(shelf, place, name)
+    At { shelf, place }.export_named(name)
 }
 
 fn under_one<S: Shelf>(shelf: &Hide<S>, place: usize, name: &[u8]) -> Option<usize>
     ensures { Found (hidden_by shelf.now.hidden (S.Shelf.meaning shelf.now.below)) place name.now result }
 {
-    export_named(shelf, place, name)
+    At { shelf, place }.export_named(name)
 }
 
 fn under_two<S: Shelf>(shelf: &Hide<Hide<S>>, place: usize, name: &[u8]) -> Option<usize>
     ensures { Found (hidden_by shelf.now.hidden (hidden_by shelf.now.below.hidden (S.Shelf.meaning shelf.now.below.below))) place name.now result }
 {
-    export_named(shelf, place, name)
+    At { shelf, place }.export_named(name)
+}
+
+fn at<S: Shelf>(shelf: &S, place: usize) -> At<'_, S> {
+    At { shelf, place }
 }
 
 #[test]
 fn clients_at_every_shelf(rt: HostRuntime) -> Result<(), Fail> {
     let plain = PlainShelf::new(BASE_SECOND)?;
     assert_eq!(rt; at_plain(&plain, 1, b"net"), Some(1));
-    assert_eq!(rt; export_named(&&plain, 0, b"net"), None);
-    assert!(rt; is_named(&Hide::new(&plain), 1, b"base"));
-    assert!(rt; is_own_import(&plain, 1, 0));
-    assert!(rt; !is_own_import(&plain, 1, 1));
+    assert_eq!(rt; at(&&plain, 0).export_named(b"net"), None);
+    assert!(rt; at(&Hide::new(&plain), 1).is_named(b"base"));
+    assert!(rt; at(&plain, 1).is_own_import(0));
+    assert!(rt; !at(&plain, 1).is_own_import(1));
     assert!(rt; plain.need(1, 1).is_some() && plain.need(1, 2).is_none());
     assert!(rt; plain.used(1, 1, 0).is_some() && plain.used(1, usize::MAX, 0).is_none());
     assert!(rt; plain.name(usize::MAX).is_none());
@@ -120,7 +119,7 @@ fn clients_at_every_shelf(rt: HostRuntime) -> Result<(), Fail> {
 fn what_is_refused(rt: HostRuntime) -> Result<(), Fail> {
     assert_eq!(rt;
         PlainShelf::new(TWICE_ALONE).err(),
-        Some(FillRefusal::LimitBroken)
+        Some(PlainRefusal::LimitBroken)
     );
     let needs = NAMES.map(|name| Need { name, ..NEEDS_NET });
     let crowded = [Some(PlainBundle {
@@ -129,7 +128,7 @@ fn what_is_refused(rt: HostRuntime) -> Result<(), Fail> {
     })];
     assert_eq!(rt;
         PlainShelf::new(&crowded).err(),
-        Some(FillRefusal::LimitBroken)
+        Some(PlainRefusal::LimitBroken)
     );
     let mut upper = Hide::new(PlainShelf::empty());
     assert_eq!(rt; upper.count(), 0);
