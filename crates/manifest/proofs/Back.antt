@@ -6,7 +6,7 @@ use Rattle.std.specs.List.{AllByRecursion, slice_get}
 use Rattle.std.proofs.ByRecursion.{All-append, All-weaker, all_kept_by, kept_by_passes}
 use Rattle.std.proofs.lemmas.List.{append-nil}
 use Rattle.std.proofs.lemmas.Bool.{and_parts, or_from, eqb-true, ne_eqb, lt-ltb, le-leb, not-true, both_ways}
-use Rattle.text.specs.Bytes.{equal, every, lacks}
+use Rattle.text.specs.Bytes.{equal, every, lacks, printable}
 use Rattle.text.specs.Splitting.{parts}
 use Rattle.text.proofs.Equals.{equal-decides}
 use Rattle.kinds.specs.declared.controller.ControllerNumber.{ControllerNumber}
@@ -25,14 +25,14 @@ use Rattle.manifest.specs.Questions.{asks, gets}
 use Rattle.manifest.specs.ClauseText.{Clause, clauses_text}
 use Rattle.manifest.specs.Values.{no_version, all_controllers, short_name, symbolic_name_in, version_in, controllers_in, exports_in, imports_in, requires_in}
 use Rattle.manifest.specs.Headers.{Headers, no_headers, count, with_header}
-use Rattle.manifest.specs.Reading.{State, start, bundle_of, same_version, taken, close_step, line_step, onward, walk, refused, printable, stray_line, closed, lines_of, without, reading}
+use Rattle.manifest.specs.Reading.{State, start, bundle_of, same_version, taken, close_step, line_step, onward, walk, refused, stray_line, closed, lines_of, without, reading}
 use Rattle.manifest.specs.Written.{version_text, controller_text, range_text, export_clause, need_clause, header_text, clauses_line, takes_all, manifest_text, written}
 use Rattle.manifest.specs.Laws.{WritableName, WritableController, WritableExport, WritableNeed, Writable, Distinct, Lawful, ReadsBack}
 use Rattle.manifest.specs.Given.{If, at-nth, never}
 use Rattle.manifest.specs.Limits.{name_filled}
 use Rattle.manifest.specs.Once.{Once, SameName}
 use Rattle.manifest.proofs.ClauseValues.{given, given-value, Kind, Sound, exports_back, imports_back, requires_back, exports_sound, imports_sound, requires_sound}
-use Rattle.manifest.proofs.Lines.{ended, ended-both, lines_back, text-stray, closed_back, ended-closed}
+use Rattle.manifest.proofs.LinesBack.{ended, ended-both, lines_back, text-stray, closed_back, ended-closed}
 use Rattle.manifest.proofs.Numbers.{in_value, version_back, controllers_back, decimal-bytes, version-bytes, range-bytes, value-lacks, value_prints, version_filled, controllers_filled}
 use Rattle.manifest.proofs.Bytes.{Prints, name_prints, every_append}
 

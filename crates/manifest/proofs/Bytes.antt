@@ -4,12 +4,11 @@ use Rattle.std.specs.List.{AllByRecursion}
 use Rattle.std.proofs.ByRecursion.{All-weaker}
 use Rattle.std.proofs.lemmas.Bool.{and_parts, and_from}
 use Rattle.std.proofs.lemmas.Bool.Decides.{nat_tests}
-use Rattle.text.specs.Bytes.{word, every}
+use Rattle.text.specs.Bytes.{word, every, printable, is_word}
 use Rattle.text.specs.Splitting.{parts, rejoined}
-use Rattle.text.proofs.Splits.{split-rejoined}
+use Rattle.text.proofs.Splits.{split_rejoined}
 use Rattle.shelf.specs.Meaning.{Name}
-use Rattle.manifest.specs.Names.{is_word, is_name}
-use Rattle.manifest.specs.Reading.{printable}
+use Rattle.manifest.specs.Names.{is_name}
 use Rattle.manifest.specs.Given.{all-All}
 
 pub every_weaker : (p q : ℕ → Bool) → ((b : ℕ) → p b ≡ true → q b ≡ true) → (text : List ℕ) → every p text ≡ true → every q text ≡ true
@@ -34,7 +33,7 @@ word_in_name b h = rw h refl
 
 pub name-bytes : (n : Name) → is_name n ≡ true → every in_name n ≡ true
 name-bytes n h =
-    subst (λ t. every in_name t ≡ true) (split-rejoined false 46 false n)
+    subst (λ t. every in_name t ≡ true) (split_rejoined false 46 false n)
     (every_join in_name 46 refl (parts 46 n) (All-weaker (λ p. is_word p ≡ true) (λ p. every in_name p ≡ true) (λ p k. every_weaker word in_name word_in_name p (and_parts _ _ k).1) (parts 46 n) (all-All is_word (parts 46 n) h)))
 
 -- nothing unprintable stands in it

@@ -5,7 +5,7 @@ use Rattle.std.specs.List.{AllByRecursion, slice_get}
 use Rattle.std.proofs.ByRecursion.{All-weaker, All-map}
 use Rattle.std.proofs.lemmas.Option.{MatchOption-at_some}
 use Rattle.std.proofs.lemmas.Bool.{and_from, or_from, not_from_false, le-leb}
-use Rattle.text.specs.Bytes.{equal}
+use Rattle.text.specs.Bytes.{equal, printable}
 use Rattle.text.specs.Splitting.{rejoined}
 use Rattle.text.proofs.Equals.{equal-decides}
 use Rattle.shelf.specs.Meaning.{Name, Export, Need, is_import, FewExports}
@@ -22,7 +22,6 @@ use Rattle.manifest.specs.Clauses.{RawClause, each, form}
 use Rattle.manifest.specs.ClauseText.{Clause, quoted, parameter_text, clause_text, clauses_text, says, LawfulParameter, LawfulClause}
 use Rattle.manifest.specs.Questions.{asks, gets}
 use Rattle.manifest.specs.Values.{export_of, need_of, import_of, require_of, short_name, small_export, few_exports, few_needs, clauses_in, exports_in, imports_in, requires_in}
-use Rattle.manifest.specs.Reading.{printable}
 use Rattle.manifest.specs.Written.{version_text, range_text, uses_parameter, export_clause, visibility_parameter, need_clause}
 use Rattle.manifest.specs.Laws.{WritableName, WritableVersion, WritableExport, WritableNeed}
 use Rattle.manifest.specs.Given.{all_both, All-all}

@@ -6,7 +6,7 @@ use Rattle.std.specs.List.{AllByRecursion}
 use Rattle.text.specs.Bytes.{equal, lacks}
 use Rattle.text.proofs.Equals.{equal-decides}
 use Rattle.text.specs.Splitting.{split, parts, reach, rejoined}
-use Rattle.text.proofs.Splits.{split-rejoined, some-piece}
+use Rattle.text.proofs.Splits.{split_rejoined, some-piece}
 use Rattle.shelf.specs.Meaning.{Name, bound}
 use Rattle.shelf.specs.declared.need.Resolution.TheVariants.{Mandatory, Optional}
 use Rattle.shelf.specs.declared.need.Visibility.TheVariants.{Private, Reexport}
@@ -67,7 +67,7 @@ not_none ps h e = let no : 0 < length {A = List ℕ} [] = subst (λ q. 0 < lengt
 
 names_say : (text : List ℕ) → If (names_of text) (NamesOf text)
 names_say text =
-    if_cond (NamesOf text) (all is_name (parts 44 text)) (Some (parts 44 text)) None (λ e. (not_none (parts 44 text) (some-piece false 44 false text), all-All is_name (parts 44 text) e, split-rejoined false 44 false text)) tt
+    if_cond (NamesOf text) (all is_name (parts 44 text)) (Some (parts 44 text)) None (λ e. (not_none (parts 44 text) (some-piece false 44 false text), all-All is_name (parts 44 text) e, split_rejoined false 44 false text)) tt
 
 resolution-says : (text : List ℕ) → If (resolution_of text) (λ r. text ≡ resolution_text r)
 resolution-says text =
@@ -138,7 +138,7 @@ pieces_say g text (n ∷ ps) h =
     if_cond (Clauses g text) (is_name n) (with_parameters (Some (bare n)) (map (parameter_of g) ps)) None (λ e. if_map (Given g (Some (bare n)) ps) (Clauses g text) (with_parameters (Some (bare n)) (map (parameter_of g) ps)) (λ d k. (record { name = n; parameters = k.0 }, (e, k.1), ap (λ ts. rejoined 59 (n ∷ ts)) k.2 ∙ h, k.3)) (given-says g (Some (bare n)) ps)) tt
 
 clause-says : (g : Grammar) (text : List ℕ) → If (clause g text) (Clauses g text)
-clause-says g text = pieces_say g text (split true 59 false text) (split-rejoined true 59 false text)
+clause-says g text = pieces_say g text (split true 59 false text) (split_rejoined true 59 false text)
 
 abbrev Listed : Grammar → List (List ℕ) → List RawClause → Type 0
 Listed g ts ds = (cs : List Clause) × AllByRecursion (LawfulClause g) cs × (map (clause_text g) cs ≡ ts) × (each says cs ≡ Some ds)
@@ -162,7 +162,7 @@ form-says g value =
       clauses = k.0;
       some = empty-map g k.0 (split true 44 false value) k.2 (some-piece true 44 false value);
       lawful = k.1;
-      text = sym (split-rejoined true 44 false value) ∙ ap (rejoined 44) (sym k.2);
+      text = sym (split_rejoined true 44 false value) ∙ ap (rejoined 44) (sym k.2);
       meaning = k.3;
     }) (listed g (split true 44 false value))
 

@@ -5,7 +5,7 @@ pub mod Bytes
 pub mod Numbers
 pub mod ClauseValues
 pub mod Calm
-pub mod Lines
+pub mod LinesBack
 pub mod Back
 mod Gathers
 mod Stops
@@ -15,3 +15,8 @@ mod Alls
 mod Strips
 mod Asks
 mod Looks
+mod Walks
+mod Strays
+mod Finds
+mod HeaderTable
+mod Unread

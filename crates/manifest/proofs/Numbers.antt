@@ -5,7 +5,7 @@ use Rattle.std.proofs.lemmas.Fmt.{decimal_nonempty, digits_decimal, digits_value
 use Rattle.std.proofs.lemmas.Str.Parse.{IsDigitsTest, FoldsDigits, IsNumeralModel, numerals_by_fold}
 use Rattle.std.proofs.lemmas.Bool.{and_from, cond-true, lt-ltb}
 use Rattle.std.proofs.lemmas.Bool.Decides.{nat_tests}
-use Rattle.text.specs.Bytes.{digit, every, lacks}
+use Rattle.text.specs.Bytes.{digit, every, lacks, printable}
 use Rattle.kinds.specs.declared.controller.ControllerNumber.{ControllerNumber}
 use Rattle.kinds.specs.declared.range.Range.TheVariants.{AtLeast, Between}
 use Rattle.kinds.specs.Controller.{controller as controller_number, numbered as controller_of}
@@ -17,7 +17,6 @@ use Rattle.kinds.specs.RangeText.{opening, closing, range}
 use Rattle.kinds.specs.Version.{version_of, version as read_version}
 use Rattle.kinds.specs.Commas.{version-lacks, controller-lacks}
 use Rattle.kinds.proofs.Ranges.{complete}
-use Rattle.manifest.specs.Reading.{printable}
 use Rattle.manifest.specs.Written.{version_text, controller_text, range_text}
 use Rattle.manifest.specs.Laws.{WritableVersion, WritableController, WritableRange}
 use Rattle.manifest.proofs.Calm.{Calm, at, calm-lacks, split-join}

@@ -2,11 +2,11 @@
 use Rattle.std.proofs.Common.{◌≡◌, ℕ, zero, suc, ◌+◌, ◌-◌, Bool, true, false, cond, not, ◌&&◌, eqb, leb, ◌⊎◌, List, [], ◌∷◌, length, take, Some, None, Ok, Err, Option, Result, refl, ap, subst, inl, inr, arith}
 use Rattle.std.proofs.lemmas.Bool.{eqb-true}
 use Rattle.std.specs.List.{slice_get}
-use Rattle.text.specs.Bytes.{every}
+use Rattle.text.specs.Bytes.{every, printable}
 use Rattle.text.specs.Splitting.{split, on_first, parts}
 use Rattle.shelf.specs.Meaning.{Bundle}
 use Rattle.manifest.specs.Questions.{FirstNo}
-use Rattle.manifest.specs.Reading.{State, start, line_step, onward, walk, refused, printable, stray_line, closed, lines_of, without, reading}
+use Rattle.manifest.specs.Reading.{State, start, line_step, onward, walk, refused, stray_line, closed, lines_of, without, reading}
 use Rattle.manifest.specs.Laws.{LineStart, PointsAtLines}
 
 -- each of the lines begins where a line begins, the first at that offset

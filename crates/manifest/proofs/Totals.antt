@@ -2,11 +2,7 @@
 use Rattle.std.proofs.Common.{◌≡◌, ℕ, suc, ◌+◌, ◌<◌, ◌≤◌, Bool, true, false, cond, not, ◌&&◌, eqb, List, [], ◌∷◌, length, refl, ap, arith}
 use Rattle.text.proofs.Splits.{some-piece}
 use Rattle.text.specs.Splitting.{on_first, parts, split, turned}
-
--- all bytes, with one more for each piece
-abbrev pub total : List (List ℕ) → ℕ
-total [] = 0
-total (l ∷ ls) = length l + 1 + total ls
+use Rattle.manifest.specs.Lines.{total}
 
 total-step : (quotes : Bool) (sep x : ℕ) (xs : List ℕ) (here now : Bool) → ((inside : Bool) → total (split quotes sep inside xs) ≡ length xs + 1) → ((inside : Bool) → 0 < length (split quotes sep inside xs))
     → total (cond here ([] ∷ split quotes sep (not here && now) xs) (on_first x (split quotes sep (not here && now) xs))) ≡ suc (length xs) + 1

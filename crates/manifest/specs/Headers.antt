@@ -9,8 +9,7 @@ use Rattle.kinds.specs.declared.version.Version.{Version}
 use Rattle.shelf.specs.Meaning.{Name, Export, Need, bound}
 use Rattle.manifest.specs.declared.header.Header.{Header}
 use Rattle.manifest.specs.declared.header.Header.TheVariants.{SymbolicName, BundleVersion, Controller, ExportPackage, ImportPackage, RequireBundle, Unknown}
-use Rattle.text.specs.Bytes.{equal}
-use Rattle.manifest.specs.Names.{is_word}
+use Rattle.text.specs.Bytes.{equal, is_word}
 use Rattle.manifest.specs.Parameters.{after}
 use Rattle.manifest.specs.Questions.{asks, gets}
 use Rattle.manifest.specs.Values.{symbolic_name_in, version_in, controllers_in, exports_in, imports_in, requires_in}

@@ -23,3 +23,5 @@ pub mod Drafts
 pub mod States
 pub mod Stages
 pub mod Shelves
+pub mod Lines
+pub mod LinesLeft

@@ -1,16 +1,12 @@
 -- Names: words joined by single dots.
-use Rattle.std.specs.Prelude.{ℕ, Bool, true, false, not, ◌&&◌, ◌||◌, List, [], ◌∷◌, length, nat_lt}
-use Rattle.text.specs.Bytes.{equal, every, word}
+use Rattle.std.specs.Prelude.{ℕ, Bool, true, false, not, ◌&&◌, ◌||◌, List, [], ◌∷◌}
+use Rattle.text.specs.Bytes.{equal, is_word}
 use Rattle.text.specs.Splitting.{parts}
 use Rattle.shelf.specs.Meaning.{Name}
 
 abbrev pub all : {X : Type 0} → (X → Bool) → List X → Bool
 all p [] = true
 all p (x ∷ xs) = p x && all p xs
-
--- letters, digits, `_` and `-`, at least one
-abbrev pub is_word : List ℕ → Bool
-is_word text = nat_lt 0 (length text) && every word text
 
 -- every part between dots is a word, so no dot leads, trails or follows another
 abbrev pub is_name : List ℕ → Bool

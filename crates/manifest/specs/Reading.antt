@@ -2,7 +2,7 @@
 use Rattle.std.specs.Prelude.{ℕ, ◌+◌, ◌-◌, Bool, false, cond, not, ◌&&◌, ◌||◌, List, [], ◌∷◌, ◌++◌, length, take, Some, None, Ok, Err, Option, Result, ◌==◌, nat_le, nat_lt, slice_index}
 use Rattle.std.specs.Option.{unwrap_or}
 use Rattle.std.specs.Result.{result_map_both}
-use Rattle.text.specs.Bytes.{equal, every}
+use Rattle.text.specs.Bytes.{equal, every, printable}
 use Rattle.text.specs.Splitting.{parts}
 use Rattle.kinds.specs.declared.version.Version.{Version}
 use Rattle.shelf.specs.Meaning.{Name, Bundle}
@@ -65,8 +65,6 @@ walk at s [] = Ok s.bundles
 walk at s (l ∷ ls) = onward at (line_step s l) (λ t. walk (at + length l + 1) t ls)
 
 -- The whole text.
-abbrev pub printable : ℕ → Bool
-printable b = nat_le 32 b && nat_le b 126
 
 -- the offset of the first line that has another byte than 32 to 126
 abbrev pub stray_line : ℕ → List (List ℕ) → Option ℕ

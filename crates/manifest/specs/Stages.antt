@@ -1,5 +1,6 @@
 -- The clauses of a value on the way to what the header says: read, and kept where they are within the limits.
-use Rattle.std.specs.Prelude.{ℕ, ◌+◌, Bool, cond, ◌&&◌, List, length, Some, None, Ok, Option, Result, nat_le}
+use Rattle.std.specs.Prelude.{ℕ, ◌+◌, Bool, cond, ◌&&◌, List, [], ◌∷◌, length, Some, None, Ok, Option, Result, nat_le}
+use Rattle.std.specs.Borrow.{Bor}
 use Rattle.std.specs.Option.{unwrap_or}
 use Rattle.text.specs.Bytes.{equal}
 use Rattle.shelf.specs.Meaning.{Name, Need, bound}
@@ -50,6 +51,7 @@ abbrev pub read_or : {X : Type 0} → X → (List ℕ → Option X) → Option (
 read_or missing reads None = Some missing
 read_or missing reads (Some text) = reads text
 
--- what the first of two words stands for, or the second
-abbrev pub either_of : {X : Type 0} → List ℕ → List ℕ → X → List ℕ → X → Option X
-either_of word first x second y = cond (equal word first) (Some x) (cond (equal word second) (Some y) None)
+-- what a word stands for in a table
+abbrev pub stands_for : {X : Type 0} → List ℕ → List (Bor (List ℕ) × X) → Option X
+stands_for word [] = None
+stands_for word ((text, x) ∷ rest) = cond (equal word text.now) (Some x) (stands_for word rest)

@@ -1,13 +1,9 @@
 // Bytes that may and may not stand in a text.
 ghost use Rattle.std.specs.Prelude.{◌≡◌};
-ghost use Rattle.text.specs.Bytes.{every, lacks};
-ghost use Rattle.manifest.specs.Reading.{closed, printable};
+ghost use Rattle.text.specs.Bytes.{every, lacks, printable};
+ghost use Rattle.manifest.specs.Reading.{closed};
 
-pub fn is_printable(b: u8) -> bool
-    ensures { result ≡ printable b }
-{
-    matches!(b, b' '..=b'~')
-}
+use text::bytes::is_printable;
 
 // Whether every byte is printable.
 pub fn are_printable(text: &[u8]) -> bool
@@ -17,10 +13,11 @@ pub fn are_printable(text: &[u8]) -> bool
 }
 
 // Whether there is no double quote.
+#[tactic(auto, using(crate::proofs::Strips::lacks_uncontained))]
 pub fn lacks_quote(text: &[u8]) -> bool
     ensures { result ≡ lacks 34 text.now }
 {
-    text.iter().all(|&b| b != b'"')
+    !text.contains(&b'"')
 }
 
 // Whether the text is a line feed alone, or ends with two.

@@ -23,10 +23,10 @@ pub struct Draft<'a> {
 }
 
 // Written out, since a struct with a ghost field has no derived `Default`.
-impl<'a> Default for Draft<'a> {
+impl Default for Draft<'_> {
     ghost is_default = { λ d. (d.name ≡ None) × (d.version ≡ None) × (d.controllers ≡ None) × (d.exports ≡ None) × (d.imports ≡ None) × (d.required ≡ None) };
 
-    fn default() -> Draft<'a> {
+    fn default() -> Self {
         Draft {
             name: None,
             version: None,

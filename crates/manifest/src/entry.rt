@@ -13,6 +13,8 @@ pub struct ExportEntry<'a> {
     pub uses: ArrayVec<&'a [u8], USES>,
 }
 
+// It owns its lists, where the plain bundle of `shelf` lends them: one type over both would take two parameters for who holds the lists,
+// with a bound on each.
 #[derive(Drop, Default)]
 pub struct BundleEntry<'a> {
     pub name: &'a [u8],

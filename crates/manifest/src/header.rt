@@ -12,7 +12,8 @@ pub enum Header {
     Unknown,
 }
 
-// The three headers whose values are clauses, each with parameters of its own.
+// The three headers whose values are clauses, each with parameters of its own. It is handed down to where one `match` picks a key, the
+// parameters or a kind: as methods those would stand apart from what they are part of.
 #[derive(Clone, Copy)]
 pub enum Grammar {
     Exports,

@@ -1,5 +1,5 @@
 // What a clause is read as.
-ghost use Rattle.std.specs.Prelude.{◌≡◌, Bool, [], map, Option};
+ghost use Rattle.std.specs.Prelude.{◌≡◌, Bool, [], map, Ok, Option};
 ghost use Rattle.std.specs.Option.{option_map, unwrap_or};
 ghost use Rattle.std.specs.Result.{result_map_both};
 ghost use Rattle.text.specs.Splitting.{parts};
@@ -10,26 +10,26 @@ ghost use Rattle.manifest.specs.Clauses.{RawClause};
 ghost use Rattle.manifest.specs.Index.{export_in};
 ghost use Rattle.manifest.specs.Numbers.{number_of};
 ghost use Rattle.manifest.specs.Parts.{names_in, raw_in};
-ghost use Rattle.manifest.specs.Stages.{few_names, kept, kind_by, need_by, short_need, within};
+ghost use Rattle.manifest.specs.Stages.{few_names, kept, kind_by, need_by, read_or, short_need, within};
+ghost use Rattle.manifest.specs.Questions.{asks, gets};
 ghost use Rattle.manifest.specs.Values.{export_of, short_name, small_export};
 
 use crate::clause::RawEntry;
 use crate::entry::ExportEntry;
 use crate::header::Grammar;
+use crate::limits::LONGEST_NAME;
 use crate::question::Question;
 use crate::texts::read_or_missing;
 use arrayvec::ArrayVec;
+use kinds::kind::FromText;
 use shelf::limits::USES;
 use shelf::need::{Need, NeedKind, Visibility};
 use text::pieces::Pieces;
 
-// No name has more bytes.
-const LONGEST: usize = 48;
-
 pub fn is_short(name: &[u8]) -> bool
     ensures { result ≡ short_name name.now }
 {
-    name.len() <= LONGEST
+    name.len() <= LONGEST_NAME
 }
 
 // What each clause of a header's value is read as: an export or a need.
@@ -70,10 +70,7 @@ impl<'a> Entry<'a> for ExportEntry<'a> {
     }
 
     fn from_clause(clause: RawEntry<'a>, _grammar: Grammar) -> Result<ExportEntry<'a>, Question> {
-        let version = read_or_missing(clause.version).ok_or(Question::Unreadable)?;
-        if !is_short(clause.name) {
-            return Err(Question::OverLimit);
-        }
+        let version = clause.read()?;
         let uses = used_names(clause.uses).ok_or(Question::OverLimit)?;
         Ok(ExportEntry {
             name: clause.name,
@@ -99,16 +96,26 @@ impl<'a> Entry<'a> for Need<'a> {
     }
 
     fn from_clause(clause: RawEntry<'a>, grammar: Grammar) -> Result<Need<'a>, Question> {
-        let range = read_or_missing(clause.version).ok_or(Question::Unreadable)?;
-        if !is_short(clause.name) {
-            return Err(Question::OverLimit);
-        }
+        let range = clause.read()?;
         Ok(Need {
             kind: kind_of(grammar, clause.visibility),
             name: clause.name,
             range,
             resolution: clause.resolution.unwrap_or_default(),
         })
+    }
+}
+
+impl RawEntry<'_> {
+    // What its version's text reads as, if its name is short enough.
+    fn read<T: FromText + Drop>(&self) -> Result<T, Question>
+        ensures { result_map_both (λ x. x) number_of result ≡ gets 8 (read_or T.missing T.reads (raw_in self.now).version) (λ x. asks 9 (short_name self.now.name.now) (Ok x)) }
+    {
+        let version = read_or_missing(self.version).ok_or(Question::Unreadable)?;
+        if !is_short(self.name) {
+            return Err(Question::OverLimit);
+        }
+        Ok(version)
     }
 }
 
@@ -123,14 +130,14 @@ fn used_names(given: Option<&[u8]>) -> Option<ArrayVec<&[u8], USES>>
 fn names(list: &[u8]) -> Option<ArrayVec<&[u8], USES>>
     ensures { option_map (λ v. map (λ u. u.now) v.items) result ≡ within few_names (parts 44 list.now) }
 {
-    let mut names = ArrayVec::new();
+    let mut found = ArrayVec::new();
     for name in Pieces::plain(list, b',') {
         if !is_short(name) {
             return None;
         }
-        names.try_push(name).ok()?;
+        found.try_push(name).ok()?;
     }
-    Some(names)
+    Some(found)
 }
 
 // What a clause of the header is, as a need.

@@ -1,11 +1,9 @@
-// The keys of parameters, and the words that may stand after them.
+// The keys of parameters, and words that stand for something.
 ghost use Rattle.std.specs.Prelude.{◌≡◌};
-ghost use Rattle.shelf.specs.Meaning.{bound};
-ghost use Rattle.manifest.specs.Parameters.{after as after_key, version_key};
-ghost use Rattle.manifest.specs.Stages.{either_of};
+ghost use Rattle.manifest.specs.Parameters.{version_key};
+ghost use Rattle.manifest.specs.Stages.{stands_for};
 
 use crate::header::Grammar;
-use crate::quoted::after;
 use text::bytes::same_text;
 
 pub fn version_key(grammar: Grammar) -> &'static [u8]
@@ -17,22 +15,13 @@ pub fn version_key(grammar: Grammar) -> &'static [u8]
     }
 }
 
-// What the word after the key stands for, of the two that may stand there.
+// What the word stands for in the table.
 // Not a `match` on byte strings: each byte that differs is a goal of its own there, and stays open.
-pub fn keyword<T: Copy>(
-    piece: &[u8],
-    key: &[u8],
-    first: (&[u8], T),
-    second: (&[u8], T),
-) -> Option<T>
-    ensures { result ≡ bound (after_key key.now piece.now) (λ word. either_of word first.entry.0.now first.entry.1 second.entry.0.now second.entry.1) }
+pub fn named<T: Copy>(word: &[u8], table: &[(&[u8], T)]) -> Option<T>
+    ensures { result ≡ stands_for word.now table.now }
 {
-    let word = after(piece, key)?;
-    if same_text(word, first.0) {
-        Some(first.1)
-    } else if same_text(word, second.0) {
-        Some(second.1)
-    } else {
-        None
-    }
+    table
+        .iter()
+        .find(|entry| same_text(word, entry.0))
+        .map(|entry| entry.1)
 }

@@ -5,8 +5,9 @@ ghost use Rattle.manifest.specs.Drafts.{line_in};
 ghost use Rattle.manifest.specs.Headers.{header_line, header_named};
 
 use crate::header::Header;
-use crate::names::is_word;
-use text::bytes::same_text;
+use crate::keywords::named;
+use crate::limits::LONGEST_HEADER;
+use text::bytes::is_word;
 use text::pieces::find;
 
 // A header and its value.
@@ -16,28 +17,20 @@ pub struct LineEntry<'a> {
     pub value: &'a [u8],
 }
 
-// No header's name has more bytes.
-const LONGEST: usize = 64;
+// The known headers.
+const HEADERS: [(&[u8], Header); 6] = [
+    (b"Bundle-SymbolicName", Header::SymbolicName),
+    (b"Bundle-Version", Header::BundleVersion),
+    (b"X-Controller", Header::Controller),
+    (b"Export-Package", Header::ExportPackage),
+    (b"Import-Package", Header::ImportPackage),
+    (b"Require-Bundle", Header::RequireBundle),
+];
 
-// A chain, since a `match` on byte strings leaves some forty cases of single bytes to prove.
 fn header_named(name: &[u8]) -> Header
     ensures { result ≡ header_named name.now }
 {
-    if same_text(name, b"Bundle-SymbolicName") {
-        Header::SymbolicName
-    } else if same_text(name, b"Bundle-Version") {
-        Header::BundleVersion
-    } else if same_text(name, b"X-Controller") {
-        Header::Controller
-    } else if same_text(name, b"Export-Package") {
-        Header::ExportPackage
-    } else if same_text(name, b"Import-Package") {
-        Header::ImportPackage
-    } else if same_text(name, b"Require-Bundle") {
-        Header::RequireBundle
-    } else {
-        Header::Unknown
-    }
+    named(name, &HEADERS).unwrap_or(Header::Unknown)
 }
 
 // A name, a colon, one space, and a value of at least one byte.
@@ -47,7 +40,7 @@ pub fn header_line(line: &[u8]) -> Option<LineEntry<'_>>
     let colon = find(line, b':', false)?;
     let (name, rest) = line.split_at(colon);
     let value = rest.strip_prefix(b": ")?;
-    if !is_word(name) || colon > LONGEST || value.is_empty() {
+    if !is_word(name) || colon > LONGEST_HEADER || value.is_empty() {
         return None;
     }
     Some(LineEntry {

@@ -21,12 +21,12 @@ pub fn entries<'a, T: Entry<'a>, const N: usize>(
     ensures { result_map_both (λ v. map T.said v.items) number_of result
         ≡ kept (few N T.small 0) (each (read_by grammar (T.reads grammar)) (split true 44 false value.now)) }
 {
-    let mut entries = ArrayVec::new();
+    let mut list = ArrayVec::new();
     let mut over = false;
     for piece in Pieces::outside_quotes(value, b',') {
-        let clause = clause(piece, grammar).ok_or(Question::Unreadable)?;
-        match T::from_clause(clause, grammar) {
-            Ok(entry) => over |= entries.try_push(entry).is_err(),
+        let raw = clause(piece, grammar).ok_or(Question::Unreadable)?;
+        match T::from_clause(raw, grammar) {
+            Ok(entry) => over |= list.try_push(entry).is_err(),
             Err(Question::OverLimit) => over = true,
             Err(question) => return Err(question),
         }
@@ -34,5 +34,5 @@ pub fn entries<'a, T: Entry<'a>, const N: usize>(
     if over {
         return Err(Question::OverLimit);
     }
-    Ok(entries)
+    Ok(list)
 }

@@ -1,17 +1,11 @@
 // Names: words joined by single dots.
 ghost use Rattle.std.specs.Prelude.{◌≡◌};
 ghost use Rattle.text.specs.Splitting.{parts};
-ghost use Rattle.manifest.specs.Names.{all, is_name, is_word};
+ghost use Rattle.text.specs.Bytes.{is_word};
+ghost use Rattle.manifest.specs.Names.{all, is_name};
 
-use text::bytes::is_word_text;
+use text::bytes::is_word;
 use text::pieces::Pieces;
-
-// Letters, digits, `_` and `-`, at least one.
-pub fn is_word(text: &[u8]) -> bool
-    ensures { result ≡ is_word text.now }
-{
-    !text.is_empty() && is_word_text(text)
-}
 
 pub fn is_name(text: &[u8]) -> bool
     ensures { result ≡ is_name text.now }

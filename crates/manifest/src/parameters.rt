@@ -8,10 +8,20 @@ ghost use Rattle.manifest.specs.Parts.{part_in, raw_in};
 
 use crate::clause::{Part, RawEntry};
 use crate::header::Grammar;
-use crate::keywords::{keyword, version_key};
+use crate::keywords::{named, version_key};
 use crate::names::are_names;
 use crate::quoted::quoted_after;
 use shelf::need::{Resolution, Visibility};
+
+const RESOLUTIONS: [(&[u8], Resolution); 2] = [
+    (b"mandatory", Resolution::Mandatory),
+    (b"optional", Resolution::Optional),
+];
+
+const VISIBILITIES: [(&[u8], Visibility); 2] = [
+    (b"private", Visibility::Private),
+    (b"reexport", Visibility::Reexport),
+];
 
 // What a piece of a clause says as a parameter of that header's clauses.
 pub fn parameter(piece: &[u8], grammar: Grammar) -> Option<Part<'_>>
@@ -34,27 +44,21 @@ fn uses_in(piece: &[u8]) -> Option<Part<'_>>
     are_names(names).then_some(Part::Uses(names))
 }
 
+// Each has its own key, table and kind of parameter. Not `.map(Part::Resolution)`: the check does not cover a function whose result
+// names a lifetime that its arguments do not name.
+#[tactic(auto, using(crate::proofs::Strips::after_stripped))]
 fn resolution_in(piece: &[u8]) -> Option<Part<'_>>
     ensures { option_map part_in result ≡ option_map resolved (bound (after_key (codes "resolution:=") piece.now) resolution_of) }
 {
-    let resolution = keyword(
-        piece,
-        b"resolution:=",
-        (b"mandatory", Resolution::Mandatory),
-        (b"optional", Resolution::Optional),
-    )?;
+    let resolution = named(piece.strip_prefix(b"resolution:=")?, &RESOLUTIONS)?;
     Some(Part::Resolution(resolution))
 }
 
+#[tactic(auto, using(crate::proofs::Strips::after_stripped))]
 fn visibility_in(piece: &[u8]) -> Option<Part<'_>>
     ensures { option_map part_in result ≡ option_map visible (bound (after_key (codes "visibility:=") piece.now) visibility_of) }
 {
-    let visibility = keyword(
-        piece,
-        b"visibility:=",
-        (b"private", Visibility::Private),
-        (b"reexport", Visibility::Reexport),
-    )?;
+    let visibility = named(piece.strip_prefix(b"visibility:=")?, &VISIBILITIES)?;
     Some(Part::Visibility(visibility))
 }
 

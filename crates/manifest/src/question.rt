@@ -1,6 +1,7 @@
 // The questions that a directory is asked.
-ghost use Rattle.std.specs.Prelude.{◌≡◌};
+ghost use Rattle.std.specs.Prelude.{◌≡◌, Some};
 ghost use Rattle.manifest.specs.Numbers.{number_of};
+ghost use Rattle.manifest.specs.Words.{asked};
 
 use std::fmt;
 
@@ -44,9 +45,6 @@ impl Question {
 
 // What is asked, in words.
 impl fmt::Display for Question {
-    ghost use Rattle.std.specs.Prelude.{Some};
-    ghost use Rattle.manifest.specs.Words.{asked};
-
     ghost output = { λ question. Some (asked question) };
 
     fn fmt<W: fmt::Write>(&self, f: &mut fmt::Formatter<W>) -> fmt::Result {

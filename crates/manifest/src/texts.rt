@@ -12,6 +12,7 @@ use crate::question::Question;
 use kinds::kind::FromText;
 
 // What a parameter gives, if that reads; what a missing text stands for where it is not given.
+// A closure, since today's check does not cover `T::read` by name, whose result names a type parameter.
 pub fn read_or_missing<T: FromText + Drop>(given: Option<&[u8]>) -> Option<T>
     ensures { result ≡ read_or T.missing T.reads (option_map (λ text. text.now) given.entry) }
 {

@@ -5,6 +5,8 @@ ghost use Rattle.manifest.specs.Names.{among, none_twice};
 use crate::items::Entry;
 use text::bytes::same_text;
 
+// The same walk as shelf's `is_clear`, which decides a statement: here a definition computes the answer, so to share it would take a lemma
+// that joins the two and a second trait for exports.
 pub fn has_twice<'a, T: Entry<'a>>(entries: &[T]) -> bool
     ensures { result ≡ not (none_twice (map T.called (map T.said entries.now))) }
 {

@@ -58,12 +58,12 @@ fn clauses_of<'a, T: Entry<'a>, const N: usize>(
     if !follows_form(value, grammar) {
         return Err(Question::Malformed);
     }
-    let entries = entries(value, grammar)?;
-    if entries.remaining_capacity() < others {
+    let list = entries(value, grammar)?;
+    if list.remaining_capacity() < others {
         return Err(Question::OverLimit);
     }
-    if has_twice(entries.as_slice()) {
+    if has_twice(list.as_slice()) {
         return Err(Question::NameTwice);
     }
-    Ok(entries)
+    Ok(list)
 }

@@ -8,7 +8,8 @@ use crate::directory::read_directory;
 use arrayvec::ArrayVec;
 
 impl<'a> ManifestShelf<'a> {
-    // The bundles of the directory in their order; none where the text is refused.
+    // The bundles of the directory in their order; none where the text is refused. That opening cannot fail is promised to callers: a
+    // program that wants to tell why asks `check`.
     pub fn open(text: &'a [u8]) -> ManifestShelf<'a>
         ensures { meaning_of result ≡ map Some (or_empty (reading text.now)) }
     {

@@ -30,7 +30,7 @@ impl<'a> ManifestShelf<'a> {
     }
 }
 
-impl<'a> Shelf for ManifestShelf<'a> {
+impl Shelf for ManifestShelf<'_> {
     ghost meaning = { meaning_of };
 
     ghost formed = { shelf-formed };

@@ -1,7 +1,6 @@
 use Rattle.std.proofs.Common.{rules, refl}
 use Rattle.std.proofs.lemmas.List.Recursion.{and_is}
-use Rattle.text.specs.Bytes.{every}
-use Rattle.manifest.specs.Reading.{printable}
+use Rattle.text.specs.Bytes.{every, printable}
 use Rattle.manifest.proofs.chars.are_printable.Goals as goal
 
 pub returns : goal.returns

@@ -9,5 +9,5 @@ use Rattle.manifest.proofs.items.names.Given as goal
 abbrev pub invariant-loop-name : goal.invariant-loop-name
 invariant-loop-name l =
     let more = left l.name-iterator in
-    (length l.names.items ≤ 8)
-    × (cond (leb (length l.names.items + length more) 8 && all short_name more) (Some (map (λ u. u.now) l.names.items ++ more)) None ≡ within few_names (parts 44 l.list))
+    (length l.found.items ≤ 8)
+    × (cond (leb (length l.found.items + length more) 8 && all short_name more) (Some (map (λ u. u.now) l.found.items ++ more)) None ≡ within few_names (parts 44 l.list))

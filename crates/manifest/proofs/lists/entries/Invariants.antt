@@ -8,6 +8,6 @@ use Rattle.manifest.proofs.lists.entries.Given as goal
 
 abbrev pub invariant-loop-piece : goal.invariant-loop-piece
 invariant-loop-piece g l =
-    (length l.entries.items ≤ g.row.N)
-    × (gathers g.row.N g.T.Entry.small (read_by l.grammar (g.T.Entry.reads l.grammar)) l.over (map g.T.Entry.said l.entries.items) (left l.piece-iterator)
+    (length l.list.items ≤ g.row.N)
+    × (gathers g.row.N g.T.Entry.small (read_by l.grammar (g.T.Entry.reads l.grammar)) l.over (map g.T.Entry.said l.list.items) (left l.piece-iterator)
     ≡ kept (few g.row.N g.T.Entry.small 0) (each (read_by l.grammar (g.T.Entry.reads l.grammar)) (split true 44 false l.value)))

@@ -1,7 +1,8 @@
 use Rattle.std.proofs.Common.{rules, tests, refl, []}
 use Rattle.std.proofs.lemmas.Iterator.Consumers.{YieldsList-from_first}
 use Rattle.text.specs.Left.{left}
-use Rattle.manifest.specs.Names.{all, is_word}
+use Rattle.text.specs.Bytes.{is_word}
+use Rattle.manifest.specs.Names.{all}
 use Rattle.manifest.proofs.Alls.{all-says}
 use Rattle.manifest.proofs.names.is_name.Goals as goal
 

@@ -6,7 +6,8 @@ use Rattle.std.proofs.lemmas.List.{take_at, get_or-append-add, length_push}
 use Rattle.std.proofs.lemmas.Bool.{and_from, or_right, eq-eqb}
 use Rattle.std.proofs.lemmas.Bool.Decides.{nat_tests}
 use Rattle.text.specs.Splitting.{parts, rejoined}
-use Rattle.manifest.specs.Reading.{printable, stray_line, closed, lines_of}
+use Rattle.text.specs.Bytes.{printable}
+use Rattle.manifest.specs.Reading.{stray_line, closed, lines_of}
 use Rattle.manifest.proofs.Calm.{Calm, at, calm-lacks, split-join}
 use Rattle.manifest.proofs.Bytes.{Prints, every_weaker}
 
