@@ -10,7 +10,7 @@ use kinds::controller::ControllerNumber;
 use kinds::range::Range;
 use kinds::version::Version;
 use places::set::PlaceSet;
-use shelf::lookup::is_own_import;
+use shelf::lookup::At;
 use shelf::shelf::Shelf;
 
 // A shelf, and the controller that its bundles are to run on.
@@ -29,16 +29,8 @@ impl<'s, S: Shelf> Target<'s, S> {
         runs_on(self.shelf.controllers(place), self.controller)
     }
 
-    // Whether need k takes no choice, since the bundle exports that package itself.
-    #[tactic(auto, using(crate::proofs::Exported::own_decides))]
-    pub fn is_own(&self, place: usize, k: usize) -> bool
-        ensures value { result ≡ own_at (S.Shelf.meaning self.now.shelf.now) place k }
-        ensures rule { Decides result (Own (S.Shelf.meaning self.now.shelf.now) place k) }
-    {
-        is_own_import(self.shelf, place, k)
-    }
-
-    // The version that the bundle at c offers for need k of the one at b, if it is a candidate.
+    // The version that the bundle at c offers for need k of the one at b, if it is a candidate. Needs are named by position, as a shelf is
+    // asked for them.
     pub fn offered(&self, b: usize, k: usize, c: usize) -> Option<Version>
         ensures { result ≡ offered_at (S.Shelf.meaning self.now.shelf.now) self.now.controller b k c }
     {
@@ -46,7 +38,11 @@ impl<'s, S: Shelf> Target<'s, S> {
         if c == b || !self.fits(c) {
             return None;
         }
-        in_range(&need.range, version_for(self.shelf, &need, c))
+        let provider = At {
+            shelf: self.shelf,
+            place: c,
+        };
+        in_range(&need.range, version_for(&provider, &need))
     }
 
     pub fn is_candidate(&self, b: usize, k: usize, c: usize) -> bool
@@ -70,4 +66,13 @@ fn runs_on(controllers: Option<Range<ControllerNumber>>, controller: ControllerN
     ensures { result ≡ range_holds controllers controller }
 {
     controllers.is_some_and(|range| range.holds(&controller))
+}
+
+// Whether need k takes no choice, since the bundle exports that package itself.
+#[tactic(auto, using(crate::proofs::Exported::own_decides))]
+pub fn is_own<S: Shelf>(shelf: &S, place: usize, k: usize) -> bool
+    ensures value { result ≡ own_at (S.Shelf.meaning shelf.now) place k }
+    ensures rule { Decides result (Own (S.Shelf.meaning shelf.now) place k) }
+{
+    At { shelf, place }.is_own_import(k)
 }

@@ -5,37 +5,37 @@ ghost use Rattle.wiring.specs.Candidates.{exported, named, version_for, in_range
 
 use kinds::range::Range;
 use kinds::version::Version;
-use shelf::lookup::{export_named, is_named};
+use shelf::lookup::At;
 use shelf::need::{Need, NeedKind};
 use shelf::shelf::Shelf;
 
 // The version of the package that the bundle exports under that name.
-pub fn exported_version<S: Shelf>(shelf: &S, place: usize, name: &[u8]) -> Option<Version>
-    ensures { result ≡ exported (S.Shelf.meaning shelf.now) place name.now }
+fn exported_version<S: Shelf>(at: &At<'_, S>, name: &[u8]) -> Option<Version>
+    ensures { result ≡ exported (S.Shelf.meaning at.now.shelf.now) at.now.place name.now }
 {
-    let j = export_named(shelf, place, name)?;
-    Some(shelf.export(place, j)?.version)
+    let j = at.export_named(name)?;
+    Some(at.shelf.export(at.place, j)?.version)
 }
 
 // The version of the bundle, if it has that name.
 #[tactic(auto, using(crate::proofs::Exported::named_version, crate::proofs::Exported::unnamed_none))]
-pub fn named_version<S: Shelf>(shelf: &S, place: usize, name: &[u8]) -> Option<Version>
-    ensures { result ≡ named (S.Shelf.meaning shelf.now) place name.now }
+fn named_version<S: Shelf>(at: &At<'_, S>, name: &[u8]) -> Option<Version>
+    ensures { result ≡ named (S.Shelf.meaning at.now.shelf.now) at.now.place name.now }
 {
-    if is_named(shelf, place, name) {
-        shelf.version(place)
+    if at.is_named(name) {
+        at.shelf.version(at.place)
     } else {
         None
     }
 }
 
 // The version of what the bundle has for the need, in its range or not.
-pub fn version_for<S: Shelf>(shelf: &S, need: &Need<'_>, place: usize) -> Option<Version>
-    ensures { result ≡ version_for (need_of need.now).kind (S.Shelf.meaning shelf.now) place (need_of need.now).name }
+pub fn version_for<S: Shelf>(at: &At<'_, S>, need: &Need<'_>) -> Option<Version>
+    ensures { result ≡ version_for (need_of need.now).kind (S.Shelf.meaning at.now.shelf.now) at.now.place (need_of need.now).name }
 {
     match need.kind {
-        NeedKind::Import => exported_version(shelf, place, need.name),
-        NeedKind::Require(_) => named_version(shelf, place, need.name),
+        NeedKind::Import => exported_version(at, need.name),
+        NeedKind::Require(_) => named_version(at, need.name),
     }
 }
 

@@ -1,61 +1,22 @@
 // A panel that imports what a meter exports, and choices for its needs.
-use crate::candidates::Target;
+use crate::candidates::{Target, is_own};
 use crate::choice::Choice;
 use crate::partial::PartialWiring;
 use crate::refusal::DecideRefusal;
 use crate::table::ChoiceTable;
 use kinds::controller::ControllerNumber;
-use kinds::range::Range;
-use kinds::version::Version;
-use shelf::need::{Need, NeedKind, Resolution};
 use shelf::plain::PlainShelf;
-use shelf::shelf::Shelf;
-use shelf::values::{PlainBundle, PlainExport};
+use shelf::samples::PANEL_AND_METER;
 use std::test::Fail;
-
-const ONE: Version = Version {
-    major: 1,
-    minor: 0,
-    micro: 0,
-};
-
-const LAMP: PlainExport<'static> = PlainExport {
-    name: b"lamp",
-    version: ONE,
-    uses: &[],
-};
-
-const NEEDS_LAMP: Need<'static> = Need {
-    kind: NeedKind::Import,
-    name: b"lamp",
-    range: Range::AtLeast(ONE),
-    resolution: Resolution::Mandatory,
-};
-
-const METER: PlainBundle<'static> = PlainBundle {
-    name: b"meter",
-    version: ONE,
-    controllers: Range::AtLeast(ControllerNumber(7)),
-    exports: &[LAMP],
-    needs: &[NEEDS_LAMP],
-};
-
-const PANEL: PlainBundle<'static> = PlainBundle {
-    name: b"panel",
-    exports: &[],
-    ..METER
-};
-
-const TABLE: &'static [Option<PlainBundle<'static>>] = &[Some(PANEL), None, Some(METER)];
 
 #[test]
 fn what_is_offered(rt: HostRuntime) -> Result<(), Fail> {
-    let shelf = PlainShelf::new(TABLE)?;
+    let shelf = PlainShelf::new(PANEL_AND_METER)?;
     let target = Target {
         shelf: &shelf,
         controller: ControllerNumber(7),
     };
-    assert!(rt; target.is_own(2, 0) && !target.is_own(0, 0));
+    assert!(rt; is_own(&shelf, 2, 0) && !is_own(&shelf, 0, 0));
     assert!(rt; !target.fits(1));
     let older = Target {
         controller: ControllerNumber(6),

@@ -32,6 +32,7 @@ impl ChoiceTable {
     pub fn set(&mut self, place: usize, need: usize, choice: Choice)
         ensures { (b k : ℕ) → chosen self.new b k ≡ (if is_cell place need b k then choice else chosen self.old b k) }
     {
+        // Not `get_mut`, here and below: tried, and what the rows are after it is not known, since its contract tells only what it lends.
         if place < PLACES && need < NEEDS {
             self.rows[place][need] = choice;
         }
