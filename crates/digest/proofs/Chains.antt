@@ -1,4 +1,4 @@
--- Following a bucket from its last number to its first.
+-- Following a bucket from its newest number to its oldest.
 use Rattle.std.proofs.Common.{◌≡◌, ℕ, ◌+◌, ◌/◌, ◌%◌, ◌<◌, List, get_or, refl, inl, inr, Some, None, Option, MatchOption, arith}
 use Rattle.std.specs.Option.{IsSomeAnd}
 use Rattle.std.proofs.lemmas.Bool.{cases_order}
@@ -27,21 +27,21 @@ module _ (m : Meaning) (bound : ℕ) (q : Name) where
   seek_first None l = λ i h f. l i q h (f, refl)
   seek_first (Some n) (lt, there, none) = (lt, there, λ i a h f. none i q a h (f, refl))
 
-  module _ (first next : List (Option ℕ)) (x : Indexed m bound first next) (n : ℕ) (s : Seeking (Some n)) (z : Option ℕ) where
-    before : Last m (bucket_of q) n (get_or next n z)
+  module _ (newest older : List (Option ℕ)) (x : Indexed m bound newest older) (n : ℕ) (s : Seeking (Some n)) (z : Option ℕ) where
+    before : Last m (bucket_of q) n (get_or older n z)
     before =
         let (p, at, (f, e)) = some_and (InBucket m (bucket_of q) n) (package_at m (n / 16) (n % 16)) s.1 in
-        rw e at (x.nexts n p z s.0 f)
+        rw e at (x.links n p z s.0 f)
 
-    pub seek_less : height (get_or next n z) < height (Some n)
-    seek_less = go (get_or next n z) before
+    pub seek_less : height (get_or older n z) < height (Some n)
+    seek_less = go (get_or older n z) before
       where
         go : (r : Option ℕ) → Last m (bucket_of q) n r → height r < n + 1
         go None l = omega arith
         go (Some k) l = omega (arith, l.0)
 
-    pub seek_more : (ExportOf m n q → ⊥) → Seeking (get_or next n z)
-    seek_more not = go (get_or next n z) before
+    pub seek_more : (ExportOf m n q → ⊥) → Seeking (get_or older n z)
+    seek_more not = go (get_or older n z) before
       where
         past : (i : ℕ) → (i < n → NumberOf m q i → ⊥) → i < bound → NumberOf m q i → ⊥
         past i low h f = elim (cases_order i n) [

@@ -1,10 +1,10 @@
 -- The places of each number, one export after the other.
-use Rattle.std.proofs.Common.{◌≡◌, ℕ, ◌+◌, ◌<◌, true, false, ◌||◌, eqb, ltb, ◌⊎◌, List, length, get_or, set, replicate, Some, None, Option, Decides, sym, refl, ap, ◌∙◌, subst, inl, inr, arith, get_or-set_same, get_or-set_other}
+use Rattle.std.proofs.Common.{◌≡◌, ℕ, zero, suc, ◌+◌, ◌<◌, ◌++◌, [], ◌∷◌, Bor, map, true, false, ◌||◌, eqb, ltb, ◌⊎◌, List, length, get_or, set, replicate, Some, None, Option, Decides, sym, refl, ap, ◌∙◌, subst, inl, inr, arith, get_or-set_same, get_or-set_other}
 use Rattle.std.specs.Option.{option_map}
 use Rattle.std.proofs.lemmas.List.{get_or-replicate, get_or_default}
 use Rattle.std.specs.List.{slice_get}
 use Rattle.std.proofs.lemmas.Bool.{and_from, and_parts, both_ways, cases_eq, eq-eqb, eqb-true, lt-ltb, or_cases, or_left, or_right}
-use Rattle.std.proofs.lemmas.Option.{same_Some}
+use Rattle.std.proofs.lemmas.Option.{same_Some, slice_get_within}
 use Rattle.places.specs.Members.{only}
 use Rattle.places.specs.Sets.{has}
 use Rattle.places.specs.declared.set.PlaceSet.{PlaceSet}
@@ -14,69 +14,104 @@ use Rattle.digest.specs.Packages.{NumberOf, ExportsNumber}
 use Rattle.digest.specs.Providers.{ProviderAt, Providing}
 use Rattle.digest.specs.declared.provider.ExportDigest.{ExportDigest}
 use Rattle.digest.specs.declared.provider.ProviderDigest.{ProviderDigest}
+use Rattle.digest.proofs.Flat.{present, got_present, present_got}
 use Rattle.digest.proofs.Past.{place_small}
 use Rattle.digest.proofs.Provided.{item_at, listed}
 
-module _ (exports : List (Option ExportDigest)) (j : ℕ) (o : Option ExportDigest) (at : slice_get exports j ≡ Some o) where
-  lists_more : (n : ℕ) → Lists exports j n → Lists exports (j + 1) n
-  lists_more n (i, d, l, e, is) = (i, d, omega arith, e, is)
+-- one of the exports that were gone through has the number n
+abbrev pub Taken : ℕ → List (Bor ExportDigest) → Type 0
+Taken n [] = ⊥
+Taken n (y ∷ ys) = (y.now.number ≡ n) ⊎ Taken n ys
 
-  lists_was : (n : ℕ) → Lists exports (j + 1) n → Lists exports j n ⊎ ((d : ExportDigest) × (o ≡ Some d) × (d.number ≡ n))
-  lists_was n (i, d, l, e, is) = elim (cases_eq i j) [
-    | inl s ↦ inr (d, same_Some o (Some d) (sym at ∙ (rw s at e)), is)
-    | inr s ↦ inl (i, d, omega arith, e, is)
-  ]
+taken_more : (n : ℕ) (ys : List (Bor ExportDigest)) (y : Bor ExportDigest) → Taken n ys ⊎ (y.now.number ≡ n) → Taken n (ys ++ y ∷ [])
+taken_more n [] y (inl t) = absurd t
+taken_more n [] y (inr e) = inl e
+taken_more n (x ∷ ys) y (inl (inl e)) = inl e
+taken_more n (x ∷ ys) y (inl (inr t)) = inr (taken_more n ys y (inl t))
+taken_more n (x ∷ ys) y (inr e) = inr (taken_more n ys y (inr e))
 
-module _ (old new : List PlaceSet) (b : ℕ) (exports : List (Option ExportDigest)) (j : ℕ) (o : Option ExportDigest) (at : slice_get exports j ≡ Some o) (was : Added old b exports j new) where
-  more : (n x : ℕ) (P : Type 0) → P ⊎ ((x ≡ b) × Lists exports j n) → P ⊎ ((x ≡ b) × Lists exports (j + 1) n)
+taken_was : (n : ℕ) (ys : List (Bor ExportDigest)) (y : Bor ExportDigest) → Taken n (ys ++ y ∷ []) → Taken n ys ⊎ (y.now.number ≡ n)
+taken_was n [] y (inl e) = inr e
+taken_was n [] y (inr t) = absurd t
+taken_was n (x ∷ ys) y (inl e) = inl (inl e)
+taken_was n (x ∷ ys) y (inr t) = elim (taken_was n ys y t) [
+  | inl k ↦ inl (inr k)
+  | inr e ↦ inr e
+]
+
+taken_at : (n : ℕ) (ys : List (Bor ExportDigest)) → Taken n ys → (k : ℕ) × (d : ExportDigest) × (slice_get (map (λ y. y.now) ys) k ≡ Some d) × (d.number ≡ n)
+taken_at n [] t = absurd t
+taken_at n (y ∷ ys) (inl e) = (0, y.now, refl, e)
+taken_at n (y ∷ ys) (inr t) = let (k, d, at, e) = taken_at n ys t in (suc k, d, at, e)
+
+at_taken : (n : ℕ) (ys : List (Bor ExportDigest)) (k : ℕ) (d : ExportDigest) → slice_get (map (λ y. y.now) ys) k ≡ Some d → d.number ≡ n → Taken n ys
+at_taken n [] k d at e = absurd (cc)
+at_taken n (y ∷ ys) zero d at e = inl (ap (λ v. v.number) (same_Some y.now d at) ∙ e)
+at_taken n (y ∷ ys) (suc k) d at e = inr (at_taken n ys k d at e)
+
+-- the place is added to the sets of the numbers of the exports that were gone through
+abbrev pub AddedBy : List PlaceSet → ℕ → List (Bor ExportDigest) → List PlaceSet → Type 0
+AddedBy old b ys new = (n x : ℕ) (z : PlaceSet) → n < 1024 → Decides (has (get_or new n z) x) ((has (get_or old n z) x ≡ true) ⊎ ((x ≡ b) × Taken n ys))
+
+pub added_none : (old : List PlaceSet) (b : ℕ) → AddedBy old b [] old
+added_none old b n x z h = (
+  λ t. inl t,
+  λ w. elim w [
+    | inl t ↦ t
+    | inr (e, t) ↦ absurd t
+  ],
+)
+
+pub added_all : (old new : List PlaceSet) (b : ℕ) (exports : List (Option ExportDigest)) (ys : List (Bor ExportDigest)) → length exports ≡ 16 → map (λ y. y.now) ys ≡ present exports → AddedBy old b ys new → Added old b exports 16 new
+added_all old new b exports ys long all added n x z h = (
+  λ t. elim ((added n x z h).0 t) [
+    | inl s ↦ inl s
+    | inr (e, t) ↦ inr (e, (let (k, d, at, num) = taken_at n ys t in let (j, there) = present_got exports k d (rw all at at) in (j, d, (let b = slice_get_within exports j (Some d) there in omega arith), there, num)))
+  ],
+  λ w. (added n x z h).1 (elim w [
+    | inl s ↦ inl s
+    | inr (e, (j, d, lt, there, num)) ↦ inr (e, (let (k, at) = got_present exports j d there in at_taken n ys k d (ap (λ l. slice_get l k) all ∙ at) num))
+  ]),
+)
+
+module _ (old new : List PlaceSet) (b : ℕ) (ys : List (Bor ExportDigest)) (y : Bor ExportDigest) (was : AddedBy old b ys new) (long : y.now.number < length new) (place : b < 64) (z₀ s : PlaceSet)
+    (set_is : (x : ℕ) → has s x ≡ (only b x || has (get_or new y.now.number z₀) x)) where
+  more : (n x : ℕ) (P : Type 0) → P ⊎ ((x ≡ b) × Taken n ys) → P ⊎ ((x ≡ b) × Taken n (ys ++ y ∷ []))
   more n x P (inl t) = inl t
-  more n x P (inr (e, l)) = inr (e, lists_more exports j o at n l)
+  more n x P (inr (e, t)) = inr (e, taken_more n ys y (inl t))
 
-  pub added_skip : o ≡ None → Added old b exports (j + 1) new
-  added_skip none n x z h = (
-    λ t. more n x _ ((was n x z h).0 t),
+  only_b : (x : ℕ) → x ≡ b → only b x ≡ true
+  only_b x e = and_from (eqb x b) (ltb b 64) (eq-eqb x b e) (lt-ltb b 64 place)
+
+  same_number : (x : ℕ) (z : PlaceSet) → y.now.number < 1024 → Decides (has (get_or (set new y.now.number s) y.now.number z) x) ((has (get_or old y.now.number z) x ≡ true) ⊎ ((x ≡ b) × Taken y.now.number (ys ++ y ∷ [])))
+  same_number x z h = rw (get_or-set_same new y.now.number s z long) (
+    λ e. elim (or_cases (only b x) (has (get_or new y.now.number z₀) x) (sym (set_is x) ∙ e)) [
+      | inl w ↦ inr (eqb-true x b (and_parts (eqb x b) (ltb b 64) w).0, taken_more y.now.number ys y (inr refl))
+      | inr w ↦ more y.now.number x _ ((was y.now.number x z h).0 (ap (λ t. has t x) (get_or_default new y.now.number z z₀ long) ∙ w))
+    ],
+    λ w. set_is x ∙ elim w [
+      | inl t ↦ or_right (only b x) (has (get_or new y.now.number z₀) x) (ap (λ t. has t x) (get_or_default new y.now.number z₀ z long) ∙ (was y.now.number x z h).1 (inl t))
+      | inr (e, l) ↦ or_left (only b x) (has (get_or new y.now.number z₀) x) (only_b x e)
+    ],
+  )
+
+  other_number : (n x : ℕ) (z : PlaceSet) → n < 1024 → (n ≡ y.now.number → ⊥) → Decides (has (get_or (set new y.now.number s) n z) x) ((has (get_or old n z) x ≡ true) ⊎ ((x ≡ b) × Taken n (ys ++ y ∷ [])))
+  other_number n x z h ne = rw (get_or-set_other new y.now.number n s z ne) (
+    λ e. more n x _ ((was n x z h).0 e),
     λ w. elim w [
       | inl t ↦ (was n x z h).1 (inl t)
-      | inr (e, l) ↦ elim (lists_was exports j o at n l) [
+      | inr (e, l) ↦ elim (taken_was n ys y l) [
         | inl k ↦ (was n x z h).1 (inr (e, k))
-        | inr (d, s, is) ↦ absurd (let clash : ◌≡◌ {A = Option ExportDigest} None (Some d) = sym none ∙ s in cc)
+        | inr num ↦ absurd (ne (sym num))
       ]
     ],
   )
 
-  module _ (d : ExportDigest) (here : o ≡ Some d) (long : d.number < length new) (place : b < 64) (z₀ s : PlaceSet) (set_is : (x : ℕ) → has s x ≡ (only b x || has (get_or new d.number z₀) x)) where
-    only_b : (x : ℕ) → x ≡ b → only b x ≡ true
-    only_b x e = and_from (eqb x b) (ltb b 64) (eq-eqb x b e) (lt-ltb b 64 place)
-
-    same_number : (x : ℕ) (z : PlaceSet) → d.number < 1024 → Decides (has (get_or (set new d.number s) d.number z) x) ((has (get_or old d.number z) x ≡ true) ⊎ ((x ≡ b) × Lists exports (j + 1) d.number))
-    same_number x z h = rw (get_or-set_same new d.number s z long) (
-      λ e. elim (or_cases (only b x) (has (get_or new d.number z₀) x) (sym (set_is x) ∙ e)) [
-        | inl w ↦ inr (eqb-true x b (and_parts (eqb x b) (ltb b 64) w).0, (j, d, omega arith, at ∙ ap Some here, refl))
-        | inr w ↦ more d.number x _ ((was d.number x z h).0 (ap (λ t. has t x) (get_or_default new d.number z z₀ long) ∙ w))
-      ],
-      λ w. set_is x ∙ elim w [
-        | inl t ↦ or_right (only b x) (has (get_or new d.number z₀) x) (ap (λ t. has t x) (get_or_default new d.number z₀ z long) ∙ (was d.number x z h).1 (inl t))
-        | inr (e, l) ↦ or_left (only b x) (has (get_or new d.number z₀) x) (only_b x e)
-      ],
-    )
-
-    other_number : (n x : ℕ) (z : PlaceSet) → n < 1024 → (n ≡ d.number → ⊥) → Decides (has (get_or (set new d.number s) n z) x) ((has (get_or old n z) x ≡ true) ⊎ ((x ≡ b) × Lists exports (j + 1) n))
-    other_number n x z h ne = rw (get_or-set_other new d.number n s z ne) (
-      λ e. more n x _ ((was n x z h).0 e),
-      λ w. elim w [
-        | inl t ↦ (was n x z h).1 (inl t)
-        | inr (e, l) ↦ elim (lists_was exports j o at n l) [
-          | inl k ↦ (was n x z h).1 (inr (e, k))
-          | inr (y, is, num) ↦ absurd (ne (sym num ∙ ap (λ v. v.number) (same_Some y d (sym is ∙ here))))
-        ]
-      ],
-    )
-
-    pub added_more : Added old b exports (j + 1) (set new d.number s)
-    added_more n x z h = elim (cases_eq n d.number) [
-      | inl e ↦ (let lt : d.number < 1024 = omega arith in rw e (same_number x z lt))
-      | inr ne ↦ other_number n x z h ne
-    ]
+  pub added_more : y.now.number < 1024 → AddedBy old b (ys ++ y ∷ []) (set new y.now.number s)
+  added_more small n x z h = elim (cases_eq n y.now.number) [
+    | inl e ↦ rw e (same_number x z small)
+    | inr ne ↦ other_number n x z h ne
+  ]
 
 -- The places of each number, one place after the other.
 abbrev Provides : List (Option ProviderDigest) → ℕ → ℕ → ℕ → Type 0

@@ -1,7 +1,8 @@
 pub mod Past
 pub mod Numbers
 pub mod Chains
-pub mod Filling
+pub mod Indexing
+pub mod Flat
 pub mod Made
 pub mod Provided
 pub mod Gathering

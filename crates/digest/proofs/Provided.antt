@@ -1,8 +1,9 @@
 -- What an export is, by what is read of it.
-use Rattle.std.proofs.Common.{◌≡◌, ℕ, ◌+◌, ◌*◌, ◌<◌, List, length, Some, None, Option, refl, ap, sym, ◌∙◌, subst, inl, inr, arith}
+use Rattle.std.proofs.Common.{◌≡◌, ℕ, ◌+◌, ◌*◌, ◌<◌, List, length, Some, None, Option, MatchOption, Bor, refl, ap, sym, ◌∙◌, subst, inl, inr, arith}
 use Rattle.std.specs.List.{AllWithin, HoldsAt, slice_get}
-use Rattle.std.specs.Option.{IsSomeAnd, option_map}
+use Rattle.std.specs.Option.{option_map}
 use Rattle.std.proofs.lemmas.Option.{get_or_from_slice_get, same_Some, slice_get-get_or, slice_get_cases, slice_get_within}
+use Rattle.kinds.specs.declared.version.Version.{Version}
 use Rattle.shelf.specs.Lent.{Offer, offer_in, offer_at}
 use Rattle.shelf.specs.Meaning.{Name, Export, Meaning, WellFormed, bound, bundle_at, export_at}
 use Rattle.shelf.proofs.Exported.{only_here}
@@ -12,6 +13,7 @@ use Rattle.digest.specs.Each.{Each}
 use Rattle.digest.specs.Packages.{NumberOf, Numbering, package_at}
 use Rattle.digest.specs.Providers.{ExportAt}
 use Rattle.digest.specs.declared.provider.ExportDigest.{ExportDigest}
+use Rattle.digest.proofs.Flat.{present, got_present, present_got}
 use Rattle.digest.proofs.Numbers.{one_number, same_package}
 use Rattle.digest.proofs.Past.{column_small, counted}
 
@@ -66,22 +68,19 @@ module _ (m : Meaning) (w : WellFormed m) (c : ℕ) (exports : List (Option Expo
   pub version_lacking : ((j : ℕ) (d : ExportDigest) → slice_get exports j ≡ Some (Some d) → d.number ≡ n → ⊥) → None ≡ exported m c q
   version_lacking never = lacking-none m c q (λ (j, e). let (d, lt, at, num) = listed m w c exports told n j q f e in never j d at num)
 
--- the export, if it is there, has that number
-abbrev pub Is : ℕ → Option ExportDigest → Type 0
-Is n o = IsSomeAnd o (λ d. d.number ≡ n)
-
-abbrev pub Other : ℕ → Option ExportDigest → Type 0
-Other n o = (d : ExportDigest) → o ≡ Some d → d.number ≡ n → ⊥
-
 -- the version of a package, by the first export that has its number
 module _ (m : Meaning) (w : WellFormed m) (c : ℕ) (exports : List (Option ExportDigest)) (told : Each 16 (ExportAt m c) exports) (n : ℕ) (q : Name) (f : NumberOf m q n) where
-  pub version_unfound : AllWithin (Other n) exports 0 (length exports) → None ≡ exported m c q
-  version_unfound others = version_lacking m w c exports told n q f (λ j d at. others j (Some d) (omega arith) (slice_get_within exports j (Some d) at) d (get_or_from_slice_get exports j (Some d) (Some d) at))
-
-  pub version_first : (o : Option ExportDigest) (d : ExportDigest) → o ≡ Some d → Is n o → (i : ℕ) → i < length exports → HoldsAt (λ y. y ≡ o) exports i → Some d.version ≡ exported m c q
-  version_first o d here is i lt at =
-      let number : Is n (Some d) = rw here at is in
-      version_found m w c exports told n q f i d (slice_get-get_or exports i (Some d) lt ∙ ap Some (at (Some d) ∙ here)) number
+  pub version_by : (r : Option (Bor ExportDigest)) (v : Option Version) →
+      MatchOption r (AllWithin (λ d. d.number ≡ n → ⊥) (present exports) 0 (length (present exports)))
+      (λ x. (x.now.number ≡ n) × (i : ℕ) × (i < length (present exports)) × HoldsAt (λ y. y ≡ x.now) (present exports) i × AllWithin (λ d. d.number ≡ n → ⊥) (present exports) 0 i) →
+      MatchOption r (v ≡ None) (λ x. v ≡ Some x.now.version) → v ≡ exported m c q
+  version_by None v others none =
+      none ∙ version_lacking m w c exports told n q f
+      (λ j d at num. let (k, here) = got_present exports j d at in
+      others k d (omega arith) (slice_get_within (present exports) k d here) (ap (λ y. y.number) (get_or_from_slice_get (present exports) k d d here) ∙ num))
+  version_by (Some x) v (num, i, lt, at, before) some =
+      let (j, there) = present_got exports i x.now (slice_get-get_or (present exports) i x.now lt ∙ ap Some (at x.now)) in
+      some ∙ version_found m w c exports told n q f j x.now there num
 
 pub version_absent : (m : Meaning) (c : ℕ) (q : Name) → bundle_at m c ≡ None → None ≡ exported m c q
 version_absent m c q none = sym (ap (λ o. bound o (λ x. version_in q x.exports)) none)

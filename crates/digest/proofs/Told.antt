@@ -7,10 +7,11 @@ use Rattle.std.proofs.lemmas.Option.{slice_get_read}
 use Rattle.kinds.specs.declared.controller.ControllerNumber.{ControllerNumber}
 use Rattle.kinds.specs.declared.version.Version.{Version}
 use Rattle.places.specs.Sets.{has}
-use Rattle.shelf.specs.Meaning.{Name, Need, Meaning, WellFormed, bundle_at, need_at, version_at}
+use Rattle.places.specs.declared.set.PlaceSet.{PlaceSet}
+use Rattle.shelf.specs.Meaning.{Name, Need, Meaning, WellFormed, bound, bundle_at, need_at, version_at}
 use Rattle.shelf.specs.declared.need.NeedKind.TheVariants.{Import, Require}
 use Rattle.shelf.specs.declared.need.Visibility.{Visibility}
-use Rattle.wiring.specs.Candidates.{range_holds, candidate, exported, fits, need_own, offered, own_at}
+use Rattle.wiring.specs.Candidates.{range_holds, candidate, candidate_at, exported, fits, need_own, offered, own_at}
 use Rattle.digest.specs.Each.{Each}
 use Rattle.digest.specs.Needs.{IsNeed, NeedAt, may_stay, optional_in}
 use Rattle.digest.specs.Packages.{NumberOf, Numbering}
@@ -48,6 +49,12 @@ module _ (m : Meaning) (controller : ControllerNumber) (b k : ℕ) (r : Bool) wh
   pub optional_told : (o : Option NeedDigest) → NeedAt m controller b k o → MatchOption o (r ≡ false) (λ d. r ≡ may_stay d.resolution) → r ≡ optional_in (need_at m b k)
   optional_told None none h = h ∙ sym (ap optional_in none)
   optional_told (Some d) (n, there, is) h = h ∙ ap may_stay is.resolution ∙ sym (ap optional_in there)
+
+-- Who can serve a need that is read.
+pub candidates_told : (m : Meaning) (controller : ControllerNumber) (b k : ℕ) (r e : PlaceSet) → ((c : ℕ) → has e c ≡ false) → (o : Option NeedDigest) → NeedAt m controller b k o → MatchOption o (r ≡ e) (λ d. r ≡ d.candidates) →
+    (c : ℕ) → has r c ≡ candidate_at m controller b k c
+candidates_told m controller b k r e empty None none h c = ap (λ s. has s c) h ∙ empty c ∙ sym (ap (λ o. is_some (bound o (λ n. offered m controller b n c))) none)
+candidates_told m controller b k r e empty (Some d) (n, there, is) h c = ap (λ s. has s c) h ∙ is.candidates c ∙ sym (ap (λ o. is_some (bound o (λ n. offered m controller b n c))) there)
 
 -- The version that c offers for a need that is there.
 module _ (m : Meaning) (w : WellFormed m) (controller : ControllerNumber) (b c : ℕ) (n : Need) (d : NeedDigest) (is : IsNeed m controller b n d) where

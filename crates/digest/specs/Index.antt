@@ -21,9 +21,9 @@ Last m c bound r =
     (λ n. (n < bound) × IsSomeAnd (package_at m (n / 16) (n % 16)) (InBucket m c n) × ((i : ℕ) (q : Name) → n < i → i < bound → InBucket m c i q → ⊥))
 
 -- the buckets of the exports before the bound: for each its last number, and for each number the one before it in its bucket
-pub record Indexed (m : Meaning) (bound : ℕ) (first next : List (Option ℕ)) : Type 0 where
-  pub firsts : (c : ℕ) (z : Option ℕ) → c < 256 → Last m c bound (slice_index_or first c z)
-  pub nexts : (n : ℕ) (q : Name) (z : Option ℕ) → n < bound → NumberOf m q n → Last m (bucket_of q) n (slice_index_or next n z)
+pub record Indexed (m : Meaning) (bound : ℕ) (newest older : List (Option ℕ)) : Type 0 where
+  pub buckets : (c : ℕ) (z : Option ℕ) → c < 256 → Last m c bound (slice_index_or newest c z)
+  pub links : (n : ℕ) (q : Name) (z : Option ℕ) → n < bound → NumberOf m q n → Last m (bucket_of q) n (slice_index_or older n z)
 
 -- what looking up q among the numbers before the bound finds
 abbrev pub Finds : Meaning → ℕ → Name → Option ℕ → Type 0

@@ -4,5 +4,6 @@ pub mod Each
 pub mod Providers
 pub mod Exporters
 pub mod Needs
+pub mod Meant
 pub mod View
 pub mod Laws

@@ -8,7 +8,7 @@ pub(crate) fn bucket(name: &[u8]) -> usize
 {
     let mut h: u32 = 0;
     for &b in name {
-        h = (h * 33 + b as u32) % 65536;
+        h = (h * 33 + u32::from(b)) % 65536;
     }
     (h % 256) as usize
 }

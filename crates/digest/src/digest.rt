@@ -1,4 +1,4 @@
-// The digest itself, in a file of its own, since the definition of what it says names it.
+// The digest itself: `making` makes it, and `calls` and `offered` are what it is asked.
 use crate::exporters::Exporters;
 use crate::need::NeedDigest;
 use crate::provider::ProviderDigest;

@@ -22,10 +22,7 @@ impl Exporters {
     pub(crate) fn of(&self, number: usize) -> PlaceSet
         ensures { (m : Meaning) → WellFormed m → Exporting m self.now.sets → (x : ℕ) → Decides (has result x) (ExportsNumber m x number) }
     {
-        match self.sets.get(number) {
-            Some(set) => *set,
-            None => PlaceSet::empty(),
-        }
+        self.sets.get(number).copied().unwrap_or_default()
     }
 
     // Adds a place to those of each number that one of its exports has.
@@ -33,10 +30,8 @@ impl Exporters {
         requires { place < 64 }
         ensures { Added self.old.sets place exports.now 16 self.new.sets }
     {
-        for export in exports {
-            if let Some(export) = export {
-                self.sets[export.number as usize].insert(place);
-            }
+        for export in exports.iter().flatten() {
+            self.sets[usize::from(export.number)].insert(place);
         }
     }
 

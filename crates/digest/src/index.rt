@@ -12,19 +12,19 @@ use shelf::limits::EXPORTS;
 use shelf::shelf::Shelf;
 use text::bytes::same_text;
 
-// The packages of the exports before `count`: for each bucket the last number in it, and for each number the one before it in its bucket.
+// The packages of the exports before `count`: for each bucket the newest number in it, and for each number the next older one of its bucket.
 // The library's maps would need the heap.
 #[derive(Drop)]
 pub struct Index<'s, S: Shelf> {
-    pub shelf: &'s S,
-    pub count: usize,
-    first: [Option<u16>; BUCKETS],
-    next: [Option<u16>; ALL_EXPORTS],
+    shelf: &'s S,
+    count: usize,
+    newest: [Option<u16>; BUCKETS],
+    older: [Option<u16>; ALL_EXPORTS],
     ghost few: { count ≤ 1024 },
-    ghost indexed: { Indexed (S.Shelf.meaning shelf.now) count first next } by { Prim.hlevel props },
+    ghost indexed: { Indexed (S.Shelf.meaning shelf.now) count newest older } by { Prim.hlevel props },
 }
 
-// The package of export n, counted through.
+// The package of export n, counted through: a number is a place and a position there.
 fn package<S: Shelf>(shelf: &S, n: usize) -> Option<&[u8]>
     ensures { option_map (λ x. x.now) result ≡ package_at (S.Shelf.meaning shelf.now) (n / 16) (n % 16) }
 {
@@ -46,21 +46,21 @@ impl<'s, S: Shelf> Index<'s, S> {
         Index {
             shelf,
             count: 0,
-            first: [None; BUCKETS],
-            next: [None; ALL_EXPORTS],
+            newest: [None; BUCKETS],
+            older: [None; ALL_EXPORTS],
         }
     }
 
-    // The number of the package among those before `count`.
+    // The number of the package among those before `count`. The walk goes from the newest number of its bucket to ever older ones.
     fn find(&self, name: &[u8]) -> Option<u16>
         ensures { Finds (S.Shelf.meaning self.now.shelf.now) self.now.count name.now result }
     {
-        let mut at = self.first[bucket(name)];
+        let mut at = self.newest[bucket(name)];
         while let Some(n) = at {
-            if is_of(self.shelf, n as usize, name) {
+            if is_of(self.shelf, usize::from(n), name) {
                 return Some(n);
             }
-            at = self.next[n as usize];
+            at = self.older[usize::from(n)];
         }
         None
     }
@@ -76,26 +76,17 @@ impl<'s, S: Shelf> Index<'s, S> {
         }
     }
 
-    // Puts the next export into its bucket, as the first of its package.
-    fn link(&mut self, name: &[u8])
-        requires { (self.old.count < 1024) × NumberOf (S.Shelf.meaning self.old.shelf.now) name.now self.old.count }
-        ensures { (self.new.shelf.now ≡ self.old.shelf.now) × (self.new.count ≡ self.old.count + 1) }
-    {
-        let c = bucket(name);
-        self.next[self.count] = self.first[c];
-        self.first[c] = Some(self.count as u16);
-        self.count += 1;
-    }
-
-    // Takes in the next export.
+    // Takes in the next export: the first of its package goes into its bucket.
     fn insert(&mut self)
         requires { self.old.count < 1024 }
         ensures { (self.new.shelf.now ≡ self.old.shelf.now) × (self.new.count ≡ self.old.count + 1) }
     {
-        match self.fresh() {
-            Some(name) => self.link(name),
-            None => self.count += 1,
+        if let Some(name) = self.fresh() {
+            let c = bucket(name);
+            self.older[self.count] = self.newest[c];
+            self.newest[c] = Some(self.count as u16);
         }
+        self.count += 1;
     }
 
     // All exports of the shelf.
@@ -103,6 +94,7 @@ impl<'s, S: Shelf> Index<'s, S> {
         ensures { (result.shelf.now ≡ shelf.now) × (result.count ≡ 1024) }
     {
         let mut index = Index::new(shelf);
+        // The count is a field and not the loop's number, since the invariant can name no loop.
         for _ in 0..ALL_EXPORTS {
             index.insert();
         }
@@ -110,7 +102,7 @@ impl<'s, S: Shelf> Index<'s, S> {
     }
 }
 
-// The packages of all exports.
+// The packages of all exports: an index that is whole, as a type, so that no contract has to ask for it.
 #[derive(Drop)]
 pub struct Names<'s, S: Shelf> {
     index: Index<'s, S>,

@@ -2,7 +2,8 @@
 use places::set::PlaceSet;
 use shelf::need::{NeedKind, Resolution};
 
-// What it imports is the number of a package, none if nobody exports it or the need is no import.
+// What it imports is the number of a package, none if nobody exports it or the need is no import; and only an import is `own`. Flat and no
+// enum, so that each question reads one field.
 #[derive(Clone, Copy)]
 pub struct NeedDigest {
     pub kind: NeedKind,

@@ -10,7 +10,6 @@ ghost use Rattle.digest.specs.Packages.{Numbering};
 use crate::exporters::Exporters;
 use crate::index::Names;
 use crate::need::NeedDigest;
-use kinds::controller::ControllerNumber;
 use places::set::PlaceSet;
 use shelf::limits::{NEEDS, PLACES};
 use shelf::need::{Need, NeedKind};
@@ -18,21 +17,23 @@ use shelf::shelf::Shelf;
 use std::array;
 use wiring::candidates::Target;
 
-// What is known of a shelf before its needs.
+// What is known of a shelf before its needs. Its clauses write the shelf's meaning out: a word for it would name this struct, and the
+// struct's invariants import all that the clauses of its file name.
 #[derive(Drop)]
 pub struct Known<'s, S: Shelf> {
+    pub target: Target<'s, S>,
     pub names: Names<'s, S>,
-    pub controller: ControllerNumber,
     pub exporters: Exporters,
     pub fitting: PlaceSet,
-    ghost exporting: { ∥ Exporting (S.Shelf.meaning names.index.shelf.now) exporters.sets ∥₁ },
-    ghost fits: { Fitting (S.Shelf.meaning names.index.shelf.now) controller fitting },
+    ghost same: { S.Shelf.meaning names.index.shelf.now ≡ S.Shelf.meaning target.shelf.now },
+    ghost exporting: { ∥ Exporting (S.Shelf.meaning target.shelf.now) exporters.sets ∥₁ },
+    ghost fits: { Fitting (S.Shelf.meaning target.shelf.now) target.controller fitting },
 }
 
 impl<'s, S: Shelf> Known<'s, S> {
     // The number of the package that a need imports.
     fn imports(&self, need: &Need<'_>) -> Option<u16>
-        ensures { Numbering (S.Shelf.meaning self.now.names.index.shelf.now) (import_of need.now.kind need.now.name.now) result }
+        ensures { Numbering (S.Shelf.meaning self.now.target.shelf.now) (import_of need.now.kind need.now.name.now) result }
     {
         match need.kind {
             NeedKind::Import => self.names.number(need.name),
@@ -41,31 +42,28 @@ impl<'s, S: Shelf> Known<'s, S> {
     }
 
     // The places that export the package that a need imports.
+    // No `map_or`: its closure would have to state again what `of` ensures.
     fn exporters(&self, imports: Option<u16>) -> PlaceSet
-        ensures { Importing (S.Shelf.meaning self.now.names.index.shelf.now) imports result }
+        ensures { Importing (S.Shelf.meaning self.now.target.shelf.now) imports result }
     {
         match imports {
-            Some(number) => self.exporters.of(number as usize),
+            Some(number) => self.exporters.of(usize::from(number)),
             None => PlaceSet::empty(),
         }
     }
 
     // The candidates for need k of b, which all are in the pool.
     fn candidates(&self, b: usize, k: usize, pool: PlaceSet) -> PlaceSet
-        requires { (c : ℕ) → candidate_at (S.Shelf.meaning self.now.names.index.shelf.now) self.now.controller b k c ≡ true → has pool c ≡ true }
-        ensures { (c : ℕ) → has result c ≡ candidate_at (S.Shelf.meaning self.now.names.index.shelf.now) self.now.controller b k c }
+        requires { (c : ℕ) → candidate_at (S.Shelf.meaning self.now.target.shelf.now) self.now.target.controller b k c ≡ true → has pool c ≡ true }
+        ensures { (c : ℕ) → has result c ≡ candidate_at (S.Shelf.meaning self.now.target.shelf.now) self.now.target.controller b k c }
     {
-        let target = Target {
-            shelf: self.names.shelf(),
-            controller: self.controller,
-        };
-        PlaceSet::those(|c| pool.contains(c) && target.is_candidate(b, k, c))
+        PlaceSet::those(|c| pool.contains(c) && self.target.is_candidate(b, k, c))
     }
 
     fn need_digest(&self, b: usize, k: usize) -> Option<NeedDigest>
-        ensures { NeedAt (S.Shelf.meaning self.now.names.index.shelf.now) self.now.controller b k result }
+        ensures { NeedAt (S.Shelf.meaning self.now.target.shelf.now) self.now.target.controller b k result }
     {
-        let need = self.names.shelf().need(b, k)?;
+        let need = self.target.shelf.need(b, k)?;
         let imports = self.imports(&need);
         let exporters = self.exporters(imports);
         let pool = match need.kind {
@@ -82,17 +80,17 @@ impl<'s, S: Shelf> Known<'s, S> {
     }
 
     fn needs_of(&self, b: usize) -> [Option<NeedDigest>; NEEDS]
-        ensures { Each 16 (NeedAt (S.Shelf.meaning self.now.names.index.shelf.now) self.now.controller b) result }
+        ensures { Each 16 (NeedAt (S.Shelf.meaning self.now.target.shelf.now) self.now.target.controller b) result }
     {
         array::from_fn(|k| self.need_digest(b, k))
     }
 
     pub(crate) fn needs(&self) -> [[Option<NeedDigest>; NEEDS]; PLACES]
-        ensures { Needing (S.Shelf.meaning self.now.names.index.shelf.now) self.now.controller result }
+        ensures { Needing (S.Shelf.meaning self.now.target.shelf.now) self.now.target.controller result }
     {
         array::from_fn(
             |b|
-                ensures { Each 16 (NeedAt (S.Shelf.meaning self.entry.now.names.index.shelf.now) self.entry.now.controller b) result }
+                ensures { Each 16 (NeedAt (S.Shelf.meaning self.entry.now.target.shelf.now) self.entry.now.target.controller b) result }
             { self.needs_of(b) },
         )
     }

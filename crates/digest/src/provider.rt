@@ -4,7 +4,8 @@ ghost use Rattle.std.specs.Prelude.{◌<◌};
 use kinds::version::Version;
 use shelf::limits::{EXPORTS, USES};
 
-// An export, by the number of its package and those of the packages that it uses, as far as anybody exports them.
+// An export, by the number of its package and those of the packages that it uses, as far as anybody exports them. Numbers have 16 bits
+// here, since a digest keeps thousands of them.
 #[derive(Clone, Copy)]
 pub struct ExportDigest {
     pub number: u16,

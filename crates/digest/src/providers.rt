@@ -1,4 +1,5 @@
 // What each bundle provides.
+ghost use Rattle.digest.specs.Meant.{meaning_of};
 ghost use Rattle.digest.specs.Packages.{Numbering};
 ghost use Rattle.digest.specs.Providers.{ExportAt, ProviderAt, Providing};
 ghost use Rattle.shelf.specs.Meaning.{used_at};
@@ -12,13 +13,13 @@ use std::array;
 impl<'s, S: Shelf> Names<'s, S> {
     // The number of the k-th package that export j of b uses.
     fn use_digest(&self, b: usize, j: usize, k: usize) -> Option<u16>
-        ensures { Numbering (S.Shelf.meaning self.now.index.shelf.now) (used_at (S.Shelf.meaning self.now.index.shelf.now) b j k) result }
+        ensures { Numbering (meaning_of self.now) (used_at (meaning_of self.now) b j k) result }
     {
         self.number(self.shelf().used(b, j, k)?)
     }
 
     fn export_digest(&self, b: usize, j: usize) -> Option<ExportDigest>
-        ensures { ExportAt (S.Shelf.meaning self.now.index.shelf.now) b j result }
+        ensures { ExportAt (meaning_of self.now) b j result }
     {
         let export = self.shelf().export(b, j)?;
         Some(ExportDigest {
@@ -29,7 +30,7 @@ impl<'s, S: Shelf> Names<'s, S> {
     }
 
     fn provider_digest(&self, b: usize) -> Option<ProviderDigest>
-        ensures { ProviderAt (S.Shelf.meaning self.now.index.shelf.now) b result }
+        ensures { ProviderAt (meaning_of self.now) b result }
     {
         Some(ProviderDigest {
             version: self.shelf().version(b)?,
@@ -38,7 +39,7 @@ impl<'s, S: Shelf> Names<'s, S> {
     }
 
     pub(crate) fn providers(&self) -> [Option<ProviderDigest>; PLACES]
-        ensures { Providing (S.Shelf.meaning self.now.index.shelf.now) result }
+        ensures { Providing (meaning_of self.now) result }
     {
         array::from_fn(|b| self.provider_digest(b))
     }

@@ -1,4 +1,4 @@
-// What a digest is asked. Any number may be asked for: what is not there is `None`, no or an empty set.
+// What a digest is asked, by position as a shelf is. Any number may be asked for: what is not there is `None`, no or an empty set.
 ghost use Rattle.std.specs.Prelude.{◌≡◌, ℕ, Some, None, Decides, MatchOption};
 ghost use Rattle.places.specs.Sets.{has};
 ghost use Rattle.shelf.specs.Meaning.{bundle_at, export_at, need_at, used_at};
@@ -13,13 +13,6 @@ use crate::need::NeedDigest;
 use crate::provider::{ExportDigest, ProviderDigest};
 use places::set::PlaceSet;
 use shelf::need::{NeedKind, Resolution};
-
-// A number as it is asked for.
-fn widened(number: Option<u16>) -> Option<usize>
-    ensures { result ≡ number }
-{
-    Some(number? as usize)
-}
 
 impl Digest {
     // Whether there is a bundle at b, and it runs on the controller.
@@ -47,14 +40,14 @@ impl Digest {
     pub fn exported(&self, b: usize, j: usize) -> Option<usize>
         ensures { Tells self.now (λ m controller. Numbering m (package_at m b j) result) }
     {
-        Some(self.export(b, j)?.number as usize)
+        Some(usize::from(self.export(b, j)?.number))
     }
 
     // The number of the k-th package that export j of b uses.
     pub fn used(&self, b: usize, j: usize, k: usize) -> Option<usize>
         ensures { Tells self.now (λ m controller. Numbering m (used_at m b j k) result) }
     {
-        widened(*self.export(b, j)?.used.get(k)?)
+        self.export(b, j)?.used.get(k)?.map(usize::from)
     }
 
     // The places that export the package with that number.
@@ -75,10 +68,8 @@ impl Digest {
     pub fn candidates(&self, b: usize, k: usize) -> PlaceSet
         ensures { Tells self.now (λ m controller. (c : ℕ) → has result c ≡ candidate_at m controller b k c) }
     {
-        match self.need(b, k) {
-            Some(need) => need.candidates,
-            None => PlaceSet::empty(),
-        }
+        self.need(b, k)
+            .map_or(PlaceSet::empty(), |need| need.candidates)
     }
 
     pub fn role(&self, b: usize, k: usize) -> Option<NeedKind>
@@ -91,7 +82,7 @@ impl Digest {
     pub fn imported(&self, b: usize, k: usize) -> Option<usize>
         ensures { Tells self.now (λ m controller. Numbering m (import_in (need_at m b k)) result) }
     {
-        widened(self.need(b, k)?.imports)
+        self.need(b, k)?.imports.map(usize::from)
     }
 
     pub fn is_optional(&self, b: usize, k: usize) -> bool

@@ -12,10 +12,9 @@ use shelf::shelf::Shelf;
 use wiring::candidates::Target;
 
 // Which bundles run on the controller.
-fn fitting<S: Shelf>(shelf: &S, controller: ControllerNumber) -> PlaceSet
-    ensures { Fitting (S.Shelf.meaning shelf.now) controller result }
+fn fitting<S: Shelf>(target: &Target<'_, S>) -> PlaceSet
+    ensures { Fitting (S.Shelf.meaning target.now.shelf.now) target.now.controller result }
 {
-    let target = Target { shelf, controller };
     PlaceSet::those(|b| target.fits(b))
 }
 
@@ -23,13 +22,14 @@ fn fitting<S: Shelf>(shelf: &S, controller: ControllerNumber) -> PlaceSet
 pub fn digest<S: Shelf>(shelf: &S, controller: ControllerNumber) -> Digest
     ensures { Digests (S.Shelf.meaning shelf.now) controller result }
 {
+    let target = Target { shelf, controller };
     let names = Names::of(shelf);
     let providers = names.providers();
     let known = Known {
+        target,
         names,
-        controller,
         exporters: Exporters::gather(&providers),
-        fitting: fitting(shelf, controller),
+        fitting: fitting(&target),
     };
     Digest {
         providers,

@@ -29,8 +29,10 @@ impl Digest {
         ensures { Tells self.now (λ m controller. (q : Name) → NumberOf m q number → result ≡ exported m c q) }
     {
         let exports = &self.provider(c)?.exports;
-        let found = exports.iter().find(|export| export.is_some_and(|export| export.number
-            == number))?;
-        Some((*found)?.version)
+        exports
+            .iter()
+            .flatten()
+            .find(|export| export.number == number)
+            .map(|export| export.version)
     }
 }

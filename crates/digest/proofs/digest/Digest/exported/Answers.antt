@@ -7,4 +7,4 @@ pub returns-in_err-export : goal.returns-in_err-export
 returns-in_err-export c = λ m controller d. unnumbered m _ _ (ap (option_map (λ e. e.name)) (c.in_err-export.ensures m controller d)) c.from_residual.ensures
 
 pub returns : goal.returns
-returns c = λ m controller d. (c.in_ok-export.ensures m controller d).number
+returns c = λ m controller d. rw c.from.ensures (c.in_ok-export.ensures m controller d).number

@@ -6,7 +6,7 @@ use Rattle.digest.proofs.digest.making.fitting.Goals as goal
 
 pub returns : goal.returns
 returns g c =
-    let shelf = c.args.shelf.now in
+    let shelf = c.args.target.now.shelf.now in
     let m = g.S.Shelf.meaning shelf in
-    those-has c.those.result (fits m c.args.controller) (λ p lt. let h = c.those.ensures.places p lt in search rules) c.those.ensures.others
-    (λ p le. fits_past m (g.met.S.Shelf.formed shelf) c.args.controller p le)
+    those-has c.those.result (fits m c.args.target.now.controller) (λ p lt. let h = c.those.ensures.places p lt in search rules) c.those.ensures.others
+    (λ p le. fits_past m (g.met.S.Shelf.formed shelf) c.args.target.now.controller p le)

@@ -1,25 +1,30 @@
-use Rattle.std.proofs.Common.{◌≡◌, ℕ, subst, sym, ◌∙◌, arith}
-use Rattle.std.proofs.lemmas.Option.{slice_get_read}
-use Rattle.digest.specs.Exporters.{Added}
-use Rattle.digest.proofs.Gathering.{added_more, added_skip}
+use Rattle.std.proofs.Common.{arith}
+use Rattle.std.specs.Iterator.Adapters.{option_iter_steps}
+use Rattle.std.specs.Option.{option_to_list}
+use Rattle.std.proofs.lemmas.Iterator.{YieldsList-from_slice}
+use Rattle.std.proofs.lemmas.Iterator.Adapters.{YieldsList-from_flatten}
+use Rattle.std.proofs.lemmas.Iterator.Consumers.{YieldsList-at, YieldsList-end}
+use Rattle.digest.proofs.Flat.{yields_option}
+use Rattle.digest.proofs.Gathering.{added_all, added_more, added_none}
 use Rattle.digest.proofs.exporters.Exporters.add.Goals as goal
-use Rattle.digest.proofs.exporters.Exporters.add.Goals.{in-Some, in_default}
+
+pub loop-export-init : goal.loop-export-init
+loop-export-init c = added_none c.args.self.now.sets c.args.place
 
 pub loop-export-preserved : goal.loop-export-preserved
 loop-export-preserved c =
     let a = c.args in
     let l = c.loop-export in
-    let o = c.export-item.result in
-    let at = slice_get_read a.exports.now 16 l.export-index o (sym c.told-exports) c.loop-export-test.true c.export-item.is in
-    elim c.match-export.branch [
-      | in-Some w ↦
-          rw w.self-is (added_more a.self.now.sets l.self.sets a.place a.exports.now l.export-index o at l.invariant w.in-Some.export (c.export-item.is ∙ w.in-Some.is)
-          (let small = w.in-Some.export.small in omega arith) c.requires (record { 0 = 0 }) _ w.insert.ensures)
-      | in_default w ↦ rw w.self-is (added_skip a.self.now.sets l.self.sets a.place a.exports.now l.export-index o at l.invariant (c.export-item.is ∙ w.in_default.is))
-    ]
+    let y = c.in-Some.export in
+    let small = y.now.small in
+    rw c.from.ensures (added_more a.self.now.sets l.self.sets a.place l.yielded y l.invariant (omega arith) c.requires (record { 0 = 0 }) _ (rw c.from.ensures at c.insert.ensures) small)
 
 pub returns : goal.returns
 returns c =
+    let exports = c.args.exports.now in
     let l = c.loop-export in
-    let done : l.export-index ≡ 16 = omega arith in
-    subst (λ (j : ℕ). Added c.args.self.now.sets c.args.place c.args.exports.now j l.self.sets) done l.invariant
+    let flat = c.flatten-export-items.ensures in
+    let road = YieldsList-at c.into_iter-export-iterator.ensures.into_iter_gives
+    (YieldsList-from_flatten _ option_iter_steps (λ y. y.now) option_to_list (λ x j b. yields_option x.now j b.0 b.1) (YieldsList-at flat.source (YieldsList-from_slice exports cc)) flat.front flat.back flat.done) in
+    let end = YieldsList-end road l.yielded _ l.yielded_by _ _ c.in-None.is c.next.ensures.steps in
+    added_all c.args.self.now.sets l.self.sets c.args.place exports l.yielded c.told-exports end.0 l.invariant

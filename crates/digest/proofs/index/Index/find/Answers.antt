@@ -8,11 +8,11 @@ loop-at-smaller g c =
     let self = c.args.self.now in
     let m = g.S.Shelf.meaning self.shelf.now in
     let s = rw c.in-Some.is at c.loop-at.invariant in
-    rw c.in-Some.is (seek_less m self.count c.args.name.now self.first self.next self.indexed c.in-Some.n s None)
+    rw (c.in-Some.is, c.from-in-Some.ensures) (seek_less m self.count c.args.name.now self.newest self.older self.indexed c.in-Some.n s None)
 
 pub loop-at-preserved : goal.loop-at-preserved
 loop-at-preserved g c =
     let self = c.args.self.now in
     let m = g.S.Shelf.meaning self.shelf.now in
     let s = rw c.in-Some.is at c.loop-at.invariant in
-    seek_more m self.count c.args.name.now self.first self.next self.indexed c.in-Some.n s None (λ n. both_ways _ c.if-is_of.false (c.is_of.ensures.1 n))
+    rw c.from-in-Some.ensures (seek_more m self.count c.args.name.now self.newest self.older self.indexed c.in-Some.n s None (λ n. both_ways _ c.if-is_of.false (rw c.from.ensures at c.is_of.ensures.1 n)))

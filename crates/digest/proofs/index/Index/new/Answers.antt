@@ -1,4 +1,4 @@
-use Rattle.digest.proofs.Filling.{index_none}
+use Rattle.digest.proofs.Indexing.{index_none}
 use Rattle.digest.proofs.index.Index.new.Goals as goal
 
 pub invariant_of-result-clause-indexed : goal.invariant_of-result-clause-indexed

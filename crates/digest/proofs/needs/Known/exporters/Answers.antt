@@ -10,12 +10,12 @@ use Rattle.digest.proofs.needs.Known.exporters.Goals as goal
 pub returns-in-Some : goal.returns-in-Some
 returns-in-Some g c = λ n s x.
     let known = c.args.self.now in
-    let shelf = known.names.index.shelf.now in
+    let shelf = known.target.shelf.now in
     let m = g.S.Shelf.meaning shelf in
     let w = g.met.S.Shelf.formed shelf in
-    ∥∥₁_elim known.exporting (Bool-set (has c.of.result x) (own m x n)) (λ e. same_from_decides (has c.of.result x) (own m x n) (c.of.ensures m w e x) (own_number m w n x c.in-Some.number (rw c.in-Some.is at s)))
+    ∥∥₁_elim known.exporting (Bool-set (has c.of.result x) (own m x n)) (λ e. same_from_decides (has c.of.result x) (own m x n) (rw c.from.ensures at c.of.ensures m w e x) (own_number m w n x c.in-Some.number (rw c.in-Some.is at s)))
 
 pub returns-in-None : goal.returns-in-None
 returns-in-None g c = λ n s x.
-    let shelf = c.args.self.now.names.index.shelf.now in
+    let shelf = c.args.self.now.target.shelf.now in
     c.empty.ensures x ∙ sym (own_none (g.S.Shelf.meaning shelf) (g.met.S.Shelf.formed shelf) n x (rw c.in-None.is at s))

@@ -6,4 +6,4 @@ use Rattle.digest.proofs.needs.Known.needs_of.Goals as goal
 pub returns : goal.returns
 returns g c =
     let known = c.args.self.now in
-    made_each _ (NeedAt (g.S.Shelf.meaning known.names.index.shelf.now) known.controller c.args.b) _ 16 (λ k d q r. search rules) _ c.from_fn.ensures.items
+    made_each _ (NeedAt (g.S.Shelf.meaning known.target.shelf.now) known.target.controller c.args.b) _ 16 (λ k d q r. search rules) _ c.from_fn.ensures.items
