@@ -4,7 +4,7 @@ use Rattle.std.proofs.lemmas.Bool.Decides.{not_from_Decides}
 use Rattle.text.specs.Bytes.{equal}
 use Rattle.text.specs.Splitting.{parts, rejoined}
 use Rattle.text.proofs.Equals.{equal-decides}
-use Rattle.text.proofs.Splits.{split-rejoined}
+use Rattle.text.proofs.Splits.{split_rejoined}
 use Rattle.kinds.specs.declared.range.Range.{Range}
 use Rattle.kinds.specs.Controller.{before, controller}
 use Rattle.kinds.specs.Order.{Trichotomy}
@@ -49,4 +49,4 @@ worded-true line (kind ∷ (r ∷ (v ∷ []))) e = asked-true line kind r v (sym
 worded-true line (kind ∷ (r ∷ (v ∷ (more ∷ words)))) e = tt
 
 pub truthful : Truthful
-truthful line = worded-true line (parts 32 line) (split-rejoined false 32 false line)
+truthful line = worded-true line (parts 32 line) (split_rejoined false 32 false line)

@@ -69,17 +69,25 @@ fn judge<'a, K: Readable>(question: Question<'a>) -> Result<Answer<'a>, Part>
     Ok(Answer { question, verdict })
 }
 
-impl fmt::Display for Part {
-    ghost output = { λ part. Some (failure part) };
-
-    fn fmt<W: fmt::Write>(&self, f: &mut fmt::Formatter<W>) -> fmt::Result {
-        let words = match self {
+impl Part {
+    // Why the line has no answer.
+    pub fn words(self) -> &'static str
+        ensures { result.now ≡ failure self }
+    {
+        match self {
             Part::Form => "not a kind, a range and a value",
             Part::Kind => "the kind cannot be read",
             Part::Range => "the range cannot be read",
             Part::Value => "the value cannot be read",
-        };
-        f.write_str(words)
+        }
+    }
+}
+
+impl fmt::Display for Part {
+    ghost output = { λ part. Some (failure part) };
+
+    fn fmt<W: fmt::Write>(&self, f: &mut fmt::Formatter<W>) -> fmt::Result {
+        f.write_str(self.words())
     }
 }
 

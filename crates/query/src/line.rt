@@ -6,8 +6,5 @@ ghost use Rattle.query.specs.Answers.{unfed};
 pub fn without_line_feed(line: &[u8]) -> &[u8]
     ensures { result.now ≡ unfed line.now }
 {
-    let [text @ .., last] = line else {
-        return line;
-    };
-    if *last == b'\n' { text } else { line }
+    line.strip_suffix(b"\n").unwrap_or(line)
 }
