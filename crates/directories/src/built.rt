@@ -1,12 +1,14 @@
 // Directories that are too long to write down.
 use manifest::check::check;
+use manifest::question::Question;
 use std::alloc::{AllocError, Global};
 use std::fmt::Write;
 
-// The number of the question that refuses the text and the offset, if one does.
-pub fn refusal(text: &[u8]) -> Option<(u8, u32)> {
-    let refusal = check(text).err()?;
-    Some((refusal.question.number(), refusal.offset))
+// The question that refuses the text and the offset, if one does.
+pub fn refusal(text: &[u8]) -> Option<(Question, u32)> {
+    check(text)
+        .err()
+        .map(|refusal| (refusal.question, refusal.offset))
 }
 
 // A header with that many clauses of one letter each, 26 at most; none without a clause.
@@ -24,28 +26,11 @@ pub fn push_clauses(text: &mut String, header: &str, count: usize) -> Result<(),
     text.push('\n')
 }
 
-// The letter, so many times.
-fn push_repeated(text: &mut String, letter: char, count: usize) -> Result<(), AllocError> {
-    for _ in 0..count {
-        text.push(letter)?;
-    }
-    Ok(())
-}
-
-// A bundle with an import of those many packages and a require of those many bundles, in that order or turned.
-pub fn with_needs(
-    heap: Global,
-    imports: usize,
-    required: usize,
-    turned: bool,
-) -> Result<String, AllocError> {
+// A bundle with those headers in that order, each with so many clauses.
+pub fn with_headers(heap: Global, headers: &[(&str, usize)]) -> Result<String, AllocError> {
     let mut text = String::new(heap);
-    if turned {
-        push_clauses(&mut text, "Require-Bundle: ", required)?;
-    }
-    push_clauses(&mut text, "Import-Package: ", imports)?;
-    if !turned {
-        push_clauses(&mut text, "Require-Bundle: ", required)?;
+    for &(header, count) in headers {
+        push_clauses(&mut text, header, count)?;
     }
     text.push_str("Bundle-SymbolicName: s\n\n")?;
     Ok(text)
@@ -56,7 +41,7 @@ pub fn bundles(heap: Global, count: usize) -> Result<String, AllocError> {
     let mut text = String::new(heap);
     for i in 0..count {
         text.push_str("Bundle-SymbolicName: s\nBundle-Version: ")?;
-        push_repeated(&mut text, '0', i % 4)?;
+        text.push_str(&"0".repeat(heap, i % 4)?)?;
         write!(text, "{i:02}\n\n")?;
     }
     Ok(text)
@@ -71,7 +56,7 @@ pub fn with_value(
 ) -> Result<String, AllocError> {
     let mut text = String::new(heap);
     text.push_str(before)?;
-    push_repeated(&mut text, 'a', count)?;
+    text.push_str(&"a".repeat(heap, count)?)?;
     text.push_str(after)?;
     Ok(text)
 }

@@ -5,6 +5,7 @@ mod refused;
 mod shelves;
 
 use manifest::check::check;
+use manifest::limits::LONGEST_TEXT;
 use manifest::manifest_shelf::ManifestShelf;
 use refused::print_refusal;
 use shelves::print_shelf;
@@ -12,7 +13,7 @@ use std::io;
 use std::io::Read;
 
 // One byte more than the longest directory has, so that one that is too long is seen to be.
-const ROOM: u64 = 65_537;
+const ROOM: u64 = LONGEST_TEXT as u64 + 1;
 
 fn main(rt: HostRuntime) -> io::Result<()> {
     let mut input = Vec::new(rt.alloc());

@@ -2,6 +2,7 @@
 use manifest::refusal::Refusal;
 use std::io;
 use std::io::Write;
+use text::bytes::is_printable;
 use text::pieces::Pieces;
 
 pub fn print_refusal(rt: &HostRuntime, text: &[u8], refusal: Refusal) -> io::Result<()> {
@@ -13,18 +14,18 @@ pub fn print_refusal(rt: &HostRuntime, text: &[u8], refusal: Refusal) -> io::Res
 }
 
 // The line that starts there, if one does; a byte that cannot be printed is shown as `?`.
+// Byte by byte, since the line as it is shown would take a buffer as long as a text may be.
 fn print_line(rt: &HostRuntime, text: &[u8], offset: usize) -> io::Result<()> {
     if offset >= text.len() {
         return Ok(());
     }
-    let mut lines = Pieces::plain(&text[offset..], b'\n');
-    let Some(line) = lines.next() else {
-        return Ok(());
-    };
+    let line = Pieces::plain(&text[offset..], b'\n')
+        .next()
+        .unwrap_or_default();
     print!(rt; "line: ")?;
     let mut out = rt.stdout();
     for &byte in line {
-        let shown = if matches!(byte, 32..=126) { byte } else { b'?' };
+        let shown = if is_printable(byte) { byte } else { b'?' };
         out.write_all(&[shown])?;
     }
     out.write_all(b"\n")

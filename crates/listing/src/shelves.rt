@@ -18,12 +18,8 @@ fn print_place<S: Shelf>(rt: &HostRuntime, shelf: &S, place: usize) -> io::Resul
     let (Some(name), Some(version)) = (shelf.name(place), shelf.version(place)) else {
         return println!(rt; "{place} absent");
     };
-    let exports = (0..EXPORTS)
-        .take_while(|&j| shelf.export(place, j).is_some())
-        .count();
-    let needs = (0..NEEDS)
-        .take_while(|&k| shelf.need(place, k).is_some())
-        .count();
+    let exports = how_many(EXPORTS, |j| shelf.export(place, j).is_some());
+    let needs = how_many(NEEDS, |k| shelf.need(place, k).is_some());
     print!(rt; "{place} ")?;
     rt.stdout().write_all(name)?;
     print!(rt; " {version} exports {exports} needs {needs}")?;
@@ -31,4 +27,11 @@ fn print_place<S: Shelf>(rt: &HostRuntime, shelf: &S, place: usize) -> io::Resul
         Some(range) if range != Range::all() => println!(rt; " on {range}"),
         _ => println!(rt; ""),
     }
+}
+
+// How many items stand in a row from the first.
+fn how_many<F: Fn(usize) -> bool>(most: usize, is_there: F) -> usize
+    requires { F.IsAlwaysCallable is_there }
+{
+    (0..most).take_while(|&i| is_there(i)).count()
 }
