@@ -5,14 +5,18 @@ use std::alloc::{AllocError, Global};
 use std::fmt::Write;
 
 // The question that refuses the text and the offset, if one does.
-pub fn refusal(text: &[u8]) -> Option<(Question, u32)> {
+pub(crate) fn refusal(text: &[u8]) -> Option<(Question, u32)> {
     check(text)
         .err()
         .map(|refusal| (refusal.question, refusal.offset))
 }
 
 // A header with that many clauses of one letter each, 26 at most; none without a clause.
-pub fn push_clauses(text: &mut String, header: &str, count: usize) -> Result<(), AllocError> {
+pub(crate) fn push_clauses(
+    text: &mut String,
+    header: &str,
+    count: usize,
+) -> Result<(), AllocError> {
     if count == 0 {
         return Ok(());
     }
@@ -27,7 +31,7 @@ pub fn push_clauses(text: &mut String, header: &str, count: usize) -> Result<(),
 }
 
 // A bundle with those headers in that order, each with so many clauses.
-pub fn with_headers(heap: Global, headers: &[(&str, usize)]) -> Result<String, AllocError> {
+pub(crate) fn with_headers(heap: Global, headers: &[(&str, usize)]) -> Result<String, AllocError> {
     let mut text = String::new(heap);
     for &(header, count) in headers {
         push_clauses(&mut text, header, count)?;
@@ -37,7 +41,7 @@ pub fn with_headers(heap: Global, headers: &[(&str, usize)]) -> Result<String, A
 }
 
 // So many bundles, each of another version, with up to three leading zeros.
-pub fn bundles(heap: Global, count: usize) -> Result<String, AllocError> {
+pub(crate) fn bundles(heap: Global, count: usize) -> Result<String, AllocError> {
     let mut text = String::new(heap);
     for i in 0..count {
         text.push_str("Bundle-SymbolicName: s\nBundle-Version: ")?;
@@ -48,7 +52,7 @@ pub fn bundles(heap: Global, count: usize) -> Result<String, AllocError> {
 }
 
 // A bundle whose header has that value, of one letter repeated.
-pub fn with_value(
+pub(crate) fn with_value(
     heap: Global,
     before: &str,
     count: usize,

@@ -5,7 +5,7 @@ use std::io::Write;
 use text::bytes::is_printable;
 use text::pieces::Pieces;
 
-pub fn print_refusal(rt: &HostRuntime, text: &[u8], refusal: Refusal) -> io::Result<()> {
+pub(crate) fn print_refusal(rt: &HostRuntime, text: &[u8], refusal: Refusal) -> io::Result<()> {
     let Refusal { question, offset } = refusal;
     let number = question.number();
     println!(rt; "refused {number} at {offset}")?;

@@ -5,7 +5,7 @@ use shelf::shelf::Shelf;
 use std::io;
 use std::io::Write;
 
-pub fn print_shelf<S: Shelf>(rt: &HostRuntime, shelf: &S) -> io::Result<()> {
+pub(crate) fn print_shelf<S: Shelf>(rt: &HostRuntime, shelf: &S) -> io::Result<()> {
     let count = shelf.count();
     println!(rt; "{count} bundles")?;
     for place in 0..count {
