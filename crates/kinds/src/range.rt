@@ -143,11 +143,10 @@ fn read_between<K: Readable>(floor: &[u8], ceiling: &[u8]) -> Option<Range<K>>
 fn read_end<K: Readable>(bracket: u8, square: u8, round: u8, value: &[u8]) -> Option<End<K>>
     ensures { result ≡ end_of (bracketing square round bracket) (K.FromText.reads value.now) }
 {
-    let value = K::read(value)?;
     if bracket == square {
-        Some(End::Included(value))
+        K::read(value).map(End::Included)
     } else if bracket == round {
-        Some(End::Excluded(value))
+        K::read(value).map(End::Excluded)
     } else {
         None
     }
