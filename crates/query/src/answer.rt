@@ -1,5 +1,5 @@
 // What a line such as `version [1.0,2.0) 1.2.0` is answered.
-ghost use Rattle.std.specs.Prelude.{◌≡◌, [], ◌∷◌, map, Some, Ok};
+ghost use Rattle.std.specs.Prelude.{◌≡◌, [], ◌∷◌, ◌++◌, map, Some, Ok, Err};
 ghost use Rattle.kinds.specs.Order.{below_by};
 ghost use Rattle.query.specs.Answers.{answer_to, asked, failure, judged_as, object, subject, verb};
 ghost use Rattle.query.specs.Views.{said};
@@ -70,9 +70,10 @@ fn judge<'a, K: Readable>(question: Question<'a>) -> Result<Answer<'a>, Part>
 }
 
 impl Part {
-    // Why the line has no answer.
+    // Why the line has no answer. It is all that is printed: of an answer's three pieces, the first and the third are empty.
     pub fn words(self) -> &'static str
-        ensures { result.now ≡ failure self }
+        ensures words { result.now ≡ failure self }
+        ensures pieces { result.now ≡ subject (said (Err self)) ++ (verb (said (Err self)) ++ object (said (Err self))) }
     {
         match self {
             Part::Form => "not a kind, a range and a value",
@@ -108,14 +109,35 @@ impl<'a> Answer<'a> {
         ask(kind, Question { range, value })
     }
 
-    // The three pieces that are printed for it, one after the other.
+    // The answer is printed in three pieces, and this is the first: the range.
+    pub fn subject(self) -> &'a [u8]
+        ensures { result.now ≡ subject (said (Ok self.entry)) }
+    {
+        self.question.range
+    }
+
+    // The second piece: what is the case. It may be kept when the line is gone.
+    pub fn verb(self) -> &'static [u8]
+        ensures { result.now ≡ verb (said (Ok self.entry)) }
+    {
+        match self.verdict {
+            Verdict::Holds => b" holds ",
+            Verdict::LeavesOut => b" leaves out ",
+        }
+    }
+
+    // The third piece: the value.
+    pub fn object(self) -> &'a [u8]
+        ensures { result.now ≡ object (said (Ok self.entry)) }
+    {
+        self.question.value
+    }
+
+    // The three pieces, one after the other.
     pub fn pieces(&self) -> [&'a [u8]; 3]
         ensures { map (λ piece. piece.now) result ≡ subject (said (Ok self.now)) ∷ verb (said (Ok self.now)) ∷ object (said (Ok self.now)) ∷ [] }
     {
-        let Question { range, value } = self.question;
-        match self.verdict {
-            Verdict::Holds => [range, b" holds ", value],
-            Verdict::LeavesOut => [range, b" leaves out ", value],
-        }
+        let verb: &'a [u8] = self.verb();
+        [self.subject(), verb, self.object()]
     }
 }
