@@ -8,16 +8,16 @@ ghost use Rattle.shelf.specs.Plain.{bundle_meant, export_meant, meant};
 
 use crate::limits::{EXPORTS, NEEDS, PLACES, USES};
 use crate::listed::{Listed, is_clear};
+use crate::lookup::same_name;
 use crate::need::{Need, NeedKind};
 use crate::values::{PlainBundle, PlainExport};
-use text::bytes::same_text;
 
 // No package twice.
 impl Listed for PlainExport<'_> {
     ghost barred = { λ e f. SameExport (export_meant e) (export_meant f) };
 
     fn bars(&self, later: &Self) -> bool {
-        same_text(self.name, later.name)
+        same_name(self.name, later.name)
     }
 }
 
@@ -28,7 +28,7 @@ impl Listed for Need<'_> {
     fn bars(&self, later: &Self) -> bool {
         match (self.kind, later.kind) {
             (NeedKind::Import, NeedKind::Import) | (NeedKind::Require(_), NeedKind::Require(_)) =>
-                same_text(self.name, later.name),
+                same_name(self.name, later.name),
             (NeedKind::Require(_), NeedKind::Import) => true,
             (NeedKind::Import, NeedKind::Require(_)) => false,
         }

@@ -1,11 +1,18 @@
 // What is asked of any shelf, proved once against its meaning: methods of the trait would be proved anew by each shelf that replaces them.
-ghost use Rattle.std.specs.Prelude.{Decides, MatchBool};
+ghost use Rattle.std.specs.Prelude.{◌≡◌, Decides, MatchBool};
 ghost use Rattle.shelf.specs.Looked.{ExportsAt, Found, Named, Only, Own};
 
 use crate::limits::EXPORTS;
 use crate::need::NeedKind;
 use crate::shelf::Shelf;
 use text::bytes::same_text;
+
+// Whether two names are the same.
+pub fn same_name(a: &[u8], b: &[u8]) -> bool
+    ensures { Decides result (a.now ≡ b.now) }
+{
+    same_text(a, b)
+}
 
 // The bundle at a place of a shelf, if one is there.
 #[derive_where(Clone, Copy)]
@@ -21,7 +28,7 @@ impl<'s, S: Shelf> At<'s, S> {
     {
         self.shelf
             .name(self.place)
-            .is_some_and(|own| same_text(own, name))
+            .is_some_and(|own| same_name(own, name))
     }
 
     // Which of its exports is of that package.
@@ -37,7 +44,7 @@ impl<'s, S: Shelf> At<'s, S> {
     {
         self.shelf
             .export(self.place, j)
-            .is_some_and(|export| same_text(export.name, name))
+            .is_some_and(|export| same_name(export.name, name))
     }
 
     // Whether need k is an import of a package that the bundle exports itself.

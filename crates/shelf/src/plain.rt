@@ -1,5 +1,5 @@
 // A shelf of plain values, lent by the caller.
-ghost use Rattle.std.specs.Prelude.{◌≡◌, [], IfOk, MatchResult};
+ghost use Rattle.std.specs.Prelude.{◌≡◌, [], is_ok, if◌then◌else◌, IfOk, MatchResult};
 ghost use Rattle.std.specs.Option.{option_map};
 ghost use Rattle.shelf.specs.Kept.{kept};
 ghost use Rattle.shelf.specs.Meaning.{WellFormed, bundle_at, export_at};
@@ -9,7 +9,7 @@ ghost use Rattle.shelf.specs.Refusal.{PlainRefused};
 use crate::export::Export;
 use crate::lawful::within_limits;
 use crate::need::Need;
-use crate::refusal::PlainRefusal;
+use crate::refusal::{FillRefusal, PlainRefusal};
 use crate::shelf::Shelf;
 use crate::values::{PlainBundle, PlainExport};
 use kinds::controller::ControllerNumber;
@@ -40,6 +40,15 @@ impl<'a> PlainShelf<'a> {
         } else {
             Err(PlainRefusal::LimitBroken)
         }
+    }
+
+    // These places in the place of those before, unless they break a limit: then nothing changes.
+    pub fn fill(&mut self, places: &'a [Option<PlainBundle<'a>>]) -> Result<(), FillRefusal>
+        ensures granted { MatchResult result (λ _. WellFormed (meant places.now)) (λ e. PlainRefused e (meant places.now)) }
+        ensures filled { self.new.places.now ≡ (if is_ok result then places.now else self.old.places.now) }
+    {
+        *self = PlainShelf::new(places)?;
+        Ok(())
     }
 
     // The bundle at a place, if one is there.

@@ -22,3 +22,6 @@ impl HideRefusal {
 pub enum PlainRefusal {
     LimitBroken,
 }
+
+// Why a shelf of plain values is not filled: the same.
+pub type FillRefusal = PlainRefusal;

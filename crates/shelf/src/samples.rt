@@ -11,20 +11,20 @@ pub const ONE: Version = Version {
     micro: 0,
 };
 
-const LAMP: PlainExport<'static> = PlainExport {
+pub const LAMP: PlainExport<'static> = PlainExport {
     name: b"lamp",
     version: ONE,
     uses: &[b"lamp"],
 };
 
-const NEEDS_LAMP: Need<'static> = Need {
+pub const NEEDS_LAMP: Need<'static> = Need {
     kind: NeedKind::Import,
     name: b"lamp",
     range: Range::AtLeast(ONE),
     resolution: Resolution::Optional,
 };
 
-const METER: PlainBundle<'static> = PlainBundle {
+pub const METER: PlainBundle<'static> = PlainBundle {
     name: b"meter",
     version: ONE,
     controllers: Range::AtLeast(ControllerNumber(7)),
@@ -32,7 +32,7 @@ const METER: PlainBundle<'static> = PlainBundle {
     needs: &[NEEDS_LAMP],
 };
 
-const PANEL: PlainBundle<'static> = PlainBundle {
+pub const PANEL: PlainBundle<'static> = PlainBundle {
     name: b"panel",
     exports: &[],
     ..METER

@@ -7,7 +7,7 @@ use crate::hide::Hide;
 use crate::lookup::At;
 use crate::need::{Need, NeedKind, Resolution};
 use crate::plain::PlainShelf;
-use crate::refusal::{HideRefusal, PlainRefusal};
+use crate::refusal::{FillRefusal, HideRefusal, PlainRefusal};
 use crate::samples::ONE;
 use crate::shelf::Shelf;
 use crate::values::{PlainBundle, PlainExport};
@@ -136,5 +136,22 @@ fn what_is_refused(rt: HostRuntime) -> Result<(), Fail> {
     assert!(rt; upper.is_hidden(63));
     assert_eq!(rt; upper.hide(64), Err(HideRefusal::NoSuchPlace));
     assert_eq!(rt; HideRefusal::NoSuchPlace.number(), 29);
+    Ok(())
+}
+
+#[test]
+fn what_is_filled(rt: HostRuntime) -> Result<(), Fail> {
+    let needs = NAMES.map(|name| Need { name, ..NEEDS_NET });
+    let crowded = [Some(PlainBundle {
+        needs: &needs,
+        ..BASE
+    })];
+    let mut plain = PlainShelf::empty();
+    assert_eq!(rt; plain.fill(TWICE_ALONE), Err(FillRefusal::LimitBroken));
+    assert_eq!(rt; plain.fill(&crowded), Err(FillRefusal::LimitBroken));
+    assert_eq!(rt; plain.count(), 0);
+    plain.fill(BASE_SECOND)?;
+    assert_eq!(rt; plain.fill(TWICE_ALONE), Err(FillRefusal::LimitBroken));
+    assert_eq!(rt; plain.count(), 2);
     Ok(())
 }
