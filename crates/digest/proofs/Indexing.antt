@@ -1,11 +1,12 @@
 -- One export more in the index.
-use Rattle.std.proofs.Common.{◌≡◌, ℕ, ◌+◌, ◌<◌, List, length, get_or, set, Some, None, Option, sym, refl, ap, ◌∙◌, inl, inr, arith, below_more, get_or-set_same, get_or-set_other, replicate}
+use Rattle.std.proofs.Common.{◌≡◌, ℕ, ◌+◌, ◌/◌, ◌%◌, ◌<◌, List, length, get_or, set, Some, None, Option, sym, refl, ap, ◌∙◌, inl, inr, arith, below_more, get_or-set_same, get_or-set_other, replicate}
+use Rattle.std.specs.Option.{IsSomeAnd, unwrap_or}
 use Rattle.std.proofs.lemmas.List.{get_or-replicate}
 use Rattle.std.proofs.lemmas.Bool.{cases_eq}
 use Rattle.shelf.specs.Meaning.{Name, Meaning}
-use Rattle.digest.specs.Index.{bucket_of, InBucket, Last, Indexed}
-use Rattle.digest.specs.Packages.{NumberOf}
-use Rattle.digest.proofs.Numbers.{same_package}
+use Rattle.digest.specs.Index.{bucket_of, Finds, InBucket, Last, Indexed, KeepsNumbers}
+use Rattle.digest.specs.Packages.{ExportOf, NumberOf, package_at}
+use Rattle.digest.proofs.Numbers.{numberless, one_number, same_package}
 
 module _ (m : Meaning) (n : ℕ) (newest older : List (Option ℕ)) (x : Indexed m n newest older) where
   last_skip : (c : ℕ) (r : Option ℕ) → Last m c n r → ((q : Name) → InBucket m c n q → ⊥) → Last m c (n + 1) r
@@ -42,3 +43,25 @@ index_none m = record {
   buckets = λ c z h. rw (get_or-replicate {A = Option ℕ} 256 c None z h) (λ i q lt. absurd (omega arith));
   links = λ n q z h. absurd (omega arith);
 }
+
+-- the number of the next export's package, by what is found before it
+pub number_next : (m : Meaning) (n : ℕ) (q : Name) → ExportOf m n q → (found : Option ℕ) (r : ℕ) → Finds m n q found → r ≡ unwrap_or found n → NumberOf m q r
+number_next m n q e None r never h = rw h (record { named = e; least = numberless m q n never })
+number_next m n q e (Some k) r f h = rw h f.1
+
+-- an export that is not there has no package, and one whose package has an older number is not its first
+pub unnumbered_next : (m : Meaning) (n : ℕ) → package_at m (n / 16) (n % 16) ≡ None → (q : Name) → NumberOf m q n → ⊥
+unnumbered_next m n none q f = let clash : ◌≡◌ {A = Option Name} None (Some q) = sym none ∙ f.named in cc
+
+pub numbered_before : (m : Meaning) (n k : ℕ) (q : Name) → ExportOf m n q → NumberOf m q k → (k ≡ n → ⊥) → (p : Name) → NumberOf m p n → ⊥
+numbered_before m n k q e f other p g = let same : p ≡ q = same_package m n p q g.named e in other (one_number m q k n f (rw same at g))
+
+module _ (m : Meaning) (n : ℕ) (numbers : List (Option ℕ)) (x : KeepsNumbers m n numbers) where
+  pub numbered_new : (q : Name) (k : ℕ) → ExportOf m n q → NumberOf m q k → n < length numbers → KeepsNumbers m (n + 1) (set numbers n (Some k))
+  numbered_new q k e f long = λ i p z h g. below_more (λ i. (p : Name) → ExportOf m i p → IsSomeAnd (get_or (set numbers n (Some k)) i z) (NumberOf m p)) n
+      (λ i b p g. rw (get_or-set_other numbers n i (Some k) z (omega arith)) (x i p z b g))
+      (λ p g. let same : q ≡ p = same_package m n q p e g in rw (get_or-set_same numbers n (Some k) z long) (rw same at f)) i h p g
+
+  pub numbered_skip : package_at m (n / 16) (n % 16) ≡ None → KeepsNumbers m (n + 1) numbers
+  numbered_skip none = λ i p z h g. below_more (λ i. (p : Name) → ExportOf m i p → IsSomeAnd (get_or numbers i z) (NumberOf m p)) n
+      (λ i b p g. x i p z b g) (λ p g. absurd (let clash : ◌≡◌ {A = Option Name} None (Some p) = sym none ∙ g in cc)) i h p g

@@ -1,5 +1,5 @@
 -- What is common to all numbers of packages.
-use Rattle.std.proofs.Common.{◌≡◌, ℕ, zero, suc, ◌+◌, ◌/◌, ◌%◌, ◌<◌, true, false, ◌⊎◌, Some, None, Option, refl, ap, inl, inr, arith, below_more}
+use Rattle.std.proofs.Common.{◌≡◌, ℕ, zero, suc, ◌+◌, ◌/◌, ◌%◌, ◌<◌, true, false, ◌⊎◌, IfSome, Some, None, Option, refl, ap, inl, inr, arith, below_more}
 use Rattle.std.specs.Str.{bytes_eq}
 use Rattle.std.proofs.lemmas.Option.{same_Some}
 use Rattle.std.proofs.lemmas.Slice.Eq.{bytes_eq-Decides}
@@ -56,3 +56,7 @@ module _ (m : Meaning) (q : Name) where
 pub numbering : (m : Meaning) → WellFormed m → (q : Name) (r : Option ℕ) → Finds m 1024 q r → Numbering m (Some q) r
 numbering m w q None never = λ p e n x. numberless m q 1024 never n (let h = place_small m w (n / 16) (n % 16) p x in omega arith) (let s = same_Some q p e in rw s x)
 numbering m w q (Some n) (lt, f) = (q, refl, f)
+
+pub numbering_small : (m : Meaning) → WellFormed m → (o : Option Name) (r : Option ℕ) → Numbering m o r → IfSome r (λ n. n < 1024)
+numbering_small m w o None h = tt
+numbering_small m w o (Some n) (q, e, f) = number_small m w n q f

@@ -1,5 +1,5 @@
 -- What an export is, by what is read of it.
-use Rattle.std.proofs.Common.{◌≡◌, ℕ, ◌+◌, ◌*◌, ◌<◌, List, length, Some, None, Option, MatchOption, Bor, refl, ap, sym, ◌∙◌, subst, inl, inr, arith}
+use Rattle.std.proofs.Common.{◌≡◌, ℕ, ◌<◌, List, length, Some, None, Option, MatchOption, Bor, refl, ap, sym, ◌∙◌, subst, inl, inr, arith}
 use Rattle.std.specs.List.{AllWithin, HoldsAt, slice_get}
 use Rattle.std.specs.Option.{option_map}
 use Rattle.std.proofs.lemmas.Option.{get_or_from_slice_get, same_Some, slice_get-get_or, slice_get_cases, slice_get_within}
@@ -10,12 +10,12 @@ use Rattle.shelf.proofs.Exported.{only_here}
 use Rattle.wiring.specs.Candidates.{exported, version_in}
 use Rattle.wiring.proofs.Exported.{found_version, lacking-none}
 use Rattle.digest.specs.Each.{Each}
-use Rattle.digest.specs.Packages.{NumberOf, Numbering, package_at}
+use Rattle.digest.specs.Packages.{NumberOf, package_at}
 use Rattle.digest.specs.Providers.{ExportAt}
 use Rattle.digest.specs.declared.provider.ExportDigest.{ExportDigest}
 use Rattle.digest.proofs.Flat.{present, got_present, present_got}
 use Rattle.digest.proofs.Numbers.{one_number, same_package}
-use Rattle.digest.proofs.Past.{column_small, counted}
+use Rattle.digest.proofs.Past.{column_small}
 
 pub offered_package : (m : Meaning) (b j : ℕ) (x : Offer) → Some x ≡ offer_at m b j → package_at m b j ≡ Some x.name
 offered_package m b j x = go (export_at m b j)
@@ -23,10 +23,6 @@ offered_package m b j x = go (export_at m b j)
     go : (o : Option Export) → Some x ≡ option_map offer_in o → option_map (λ e. e.name) o ≡ Some x.name
     go None e = cc
     go (Some y) e = let same : x ≡ offer_in y = cc in ap (λ z. Some z.name) (sym same)
-
--- an export's package has a number
-pub always_numbered : (m : Meaning) → WellFormed m → (b j : ℕ) (q : Name) → package_at m b j ≡ Some q → Numbering m (Some q) None → ⊥
-always_numbered m w b j q e none = none q refl (b * 16 + j) (counted m w b j q e).1
 
 pub item_at : {X : Type 0} (xs : List X) (i : ℕ) → i < length xs → (x : X) × (slice_get xs i ≡ Some x)
 item_at xs i lt = elim (slice_get_cases xs i).1 [

@@ -29,6 +29,14 @@ pooled true passes within = refl
 pooled false true within = within refl
 pooled false false within = refl
 
+-- an empty pool has no candidate
+pub none-among : (pool passes : ℕ → Bool) → ((p : ℕ) → passes p ≡ true → pool p ≡ true) → ((p : ℕ) → pool p ≡ false) → (p : ℕ) → pool p ≡ passes p
+none-among pool passes within none p = go (passes p) refl
+  where
+    go : (t : Bool) → passes p ≡ t → pool p ≡ t
+    go true e = within p e
+    go false e = none p
+
 -- what is offered is what is there
 kept : (f : Bool) (range : Range Version) (o : Option Version) → is_some (cond f (in_range range o) None) ≡ true → (f ≡ true) × (is_some o ≡ true) × (cond f (in_range range o) None ≡ o)
 kept false range o h = absurd (both_ways false refl h)

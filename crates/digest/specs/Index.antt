@@ -1,7 +1,7 @@
 -- Packages in buckets, by which numbers are found: for inner functions, no public contract cites this.
 use Rattle.std.specs.Prelude.{◌≡◌, ℕ, ◌+◌, ◌*◌, ◌/◌, ◌%◌, ◌<◌, List, [], ◌∷◌, IsSomeAnd, Option, MatchOption, slice_index_or}
 use Rattle.shelf.specs.Meaning.{Name, Meaning}
-use Rattle.digest.specs.Packages.{NumberOf, package_at}
+use Rattle.digest.specs.Packages.{ExportOf, NumberOf, package_at}
 
 abbrev pub rolled : ℕ → Name → ℕ
 rolled h [] = h
@@ -28,3 +28,7 @@ pub record Indexed (m : Meaning) (bound : ℕ) (newest older : List (Option ℕ)
 -- what looking up q among the numbers before the bound finds
 abbrev pub Finds : Meaning → ℕ → Name → Option ℕ → Type 0
 Finds m bound q r = MatchOption r ((i : ℕ) → i < bound → NumberOf m q i → ⊥) (λ n. (n < bound) × NumberOf m q n)
+
+-- each export before the bound has the number of its package
+abbrev pub KeepsNumbers : Meaning → ℕ → List (Option ℕ) → Type 0
+KeepsNumbers m bound numbers = (i : ℕ) (q : Name) (z : Option ℕ) → i < bound → ExportOf m i q → IsSomeAnd (slice_index_or numbers i z) (NumberOf m q)

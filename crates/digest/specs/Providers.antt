@@ -1,17 +1,22 @@
 -- What a digest says of bundles as providers.
-use Rattle.std.specs.Prelude.{◌≡◌, ℕ, List, Some, None, Option, MatchOption}
+use Rattle.std.specs.Prelude.{◌≡◌, ℕ, cond, ltb, List, Some, None, Option, MatchOption}
 use Rattle.shelf.specs.Lent.{Offer, offer_at}
 use Rattle.shelf.specs.Meaning.{Meaning, bundle_at, export_at, version_at, used_at}
 use Rattle.digest.specs.Each.{Each}
 use Rattle.digest.specs.Packages.{Numbering, package_at}
+use Rattle.digest.specs.declared.number.Number.{Number}
 use Rattle.digest.specs.declared.provider.ExportDigest.{ExportDigest}
 use Rattle.digest.specs.declared.provider.ProviderDigest.{ProviderDigest}
+
+-- the number that is kept, 1,024 where there is none
+abbrev pub number_in : Number → Option ℕ
+number_in n = cond (ltb n.0 1024) (Some n.0) None
 
 -- export j of b is there, and d says what it is
 pub record IsExport (m : Meaning) (b j : ℕ) (d : ExportDigest) : Type 0 where
   pub number : Numbering m (package_at m b j) (Some d.number)
   pub version : (x : Offer) → offer_at m b j ≡ Some x → d.version ≡ x.version
-  pub used : Each 8 (λ k u. Numbering m (used_at m b j k) u) d.used
+  pub used : Each 8 (λ k u. Numbering m (used_at m b j k) (number_in u)) d.used
 
 -- nothing stands for an export that is not there
 abbrev pub ExportAt : Meaning → ℕ → ℕ → Option ExportDigest → Type 0

@@ -10,7 +10,7 @@ pub mod making;
 pub mod offered;
 
 // For each place what its bundle provides and needs, nothing where there is no bundle. Needs stand beside the providers and not in them,
-// since who can serve a need is settled once all providers are known. Some 84 KB.
+// since who can serve a need is settled once all providers are known. Some 60 KB.
 #[derive(Drop)]
 pub struct Digest {
     providers: [Option<ProviderDigest>; PLACES],

@@ -1,9 +1,9 @@
 // Finding the number of a package by its name.
-ghost use Rattle.std.specs.Prelude.{◌≡◌, ◌+◌, ◌/◌, ◌%◌, ◌<◌, ◌≤◌, Some, Decides, MatchOption};
-ghost use Rattle.std.specs.Option.{option_map};
+ghost use Rattle.std.specs.Prelude.{◌≡◌, ◌+◌, ◌/◌, ◌%◌, ◌<◌, ◌≤◌, Some, None, Decides, MatchOption};
+ghost use Rattle.std.specs.Option.{IsSomeAnd, option_map};
 ghost use Rattle.std.proofs.Props.{props};
 ghost use Rattle.shelf.specs.Meaning.{Name};
-ghost use Rattle.digest.specs.Index.{Finds, Indexed};
+ghost use Rattle.digest.specs.Index.{Finds, Indexed, KeepsNumbers};
 ghost use Rattle.digest.specs.Packages.{ExportOf, NumberOf, Numbering, package_at};
 
 use crate::bucket::bucket;
@@ -12,16 +12,18 @@ use shelf::limits::EXPORTS;
 use shelf::shelf::Shelf;
 use text::bytes::same_text;
 
-// The packages of the exports before `count`: for each bucket the newest number in it, and for each number the next older one of its bucket.
-// The library's maps would need the heap.
+// The packages of the exports before `count`: for each bucket the newest number in it, for each number the next older one of its bucket,
+// and for each export its package's number. The library's maps would need the heap.
 #[derive(Drop)]
 pub struct Index<'s, S: Shelf> {
     shelf: &'s S,
     count: usize,
     newest: [Option<u16>; BUCKETS],
     older: [Option<u16>; ALL_EXPORTS],
+    numbers: [Option<u16>; ALL_EXPORTS],
     ghost few: { count ≤ 1024 },
     ghost indexed: { Indexed (S.Shelf.meaning shelf.now) count newest older } by { Prim.hlevel props },
+    ghost numbered: { KeepsNumbers (S.Shelf.meaning shelf.now) count numbers } by { Prim.hlevel props },
 }
 
 // The package of export n, counted through: a number is a place and a position there.
@@ -48,6 +50,7 @@ impl<'s, S: Shelf> Index<'s, S> {
             count: 0,
             newest: [None; BUCKETS],
             older: [None; ALL_EXPORTS],
+            numbers: [None; ALL_EXPORTS],
         }
     }
 
@@ -65,15 +68,12 @@ impl<'s, S: Shelf> Index<'s, S> {
         None
     }
 
-    // The package of the next export, if none before it is of that package.
-    fn fresh(&self) -> Option<&'s [u8]>
-        ensures { MatchOption result ((q : Name) → NumberOf (S.Shelf.meaning self.now.shelf.now) q self.now.count → ⊥) (λ q. NumberOf (S.Shelf.meaning self.now.shelf.now) q.now self.now.count) }
+    // The package of the next export and its number, which is the export's own where none before it is of that package.
+    fn next(&self) -> Option<(&'s [u8], u16)>
+        ensures { MatchOption result (package_at (S.Shelf.meaning self.now.shelf.now) (self.now.count / 16) (self.now.count % 16) ≡ None) (λ r. ExportOf (S.Shelf.meaning self.now.shelf.now) self.now.count r.0.now × NumberOf (S.Shelf.meaning self.now.shelf.now) r.0.now r.1) }
     {
         let name = package(self.shelf, self.count)?;
-        match self.find(name) {
-            Some(_) => None,
-            None => Some(name),
-        }
+        Some((name, self.find(name).unwrap_or(self.count as u16)))
     }
 
     // Takes in the next export: the first of its package goes into its bucket.
@@ -81,10 +81,13 @@ impl<'s, S: Shelf> Index<'s, S> {
         requires { self.old.count < 1024 }
         ensures { (self.new.shelf.now ≡ self.old.shelf.now) × (self.new.count ≡ self.old.count + 1) }
     {
-        if let Some(name) = self.fresh() {
-            let c = bucket(name);
-            self.older[self.count] = self.newest[c];
-            self.newest[c] = Some(self.count as u16);
+        if let Some((name, number)) = self.next() {
+            if usize::from(number) == self.count {
+                let c = bucket(name);
+                self.older[self.count] = self.newest[c];
+                self.newest[c] = Some(number);
+            }
+            self.numbers[self.count] = Some(number);
         }
         self.count += 1;
     }
@@ -129,5 +132,12 @@ impl<'s, S: Shelf> Names<'s, S> {
         ensures { Numbering (S.Shelf.meaning self.now.index.shelf.now) (Some name.now) result }
     {
         self.index.find(name)
+    }
+
+    // The number of export n's package, counted through, which was found when the export was taken in.
+    pub(crate) fn export_number(&self, n: usize) -> Option<u16>
+        ensures { (q : Name) → ExportOf (S.Shelf.meaning self.now.index.shelf.now) n q → IsSomeAnd result (NumberOf (S.Shelf.meaning self.now.index.shelf.now) q) }
+    {
+        *self.index.numbers.get(n)?
     }
 }

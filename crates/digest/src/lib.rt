@@ -7,9 +7,11 @@ mod exporters;
 mod index;
 pub mod laws;
 mod limits;
-mod need;
+pub mod need;
 mod needs;
+mod number;
 mod provider;
 mod providers;
 #[cfg(test)]
 mod tests;
+pub mod want;

@@ -57,7 +57,12 @@ impl<'s, S: Shelf> Known<'s, S> {
         requires { (c : ℕ) → candidate_at (S.Shelf.meaning self.now.target.shelf.now) self.now.target.controller b k c ≡ true → has pool c ≡ true }
         ensures { (c : ℕ) → has result c ≡ candidate_at (S.Shelf.meaning self.now.target.shelf.now) self.now.target.controller b k c }
     {
-        PlaceSet::those(|c| pool.contains(c) && self.target.is_candidate(b, k, c))
+        if pool.is_empty() {
+            return pool;
+        }
+        PlaceSet::those(&array::from_fn(|c| {
+            pool.contains(c) && self.target.is_candidate(b, k, c)
+        }))
     }
 
     fn need_digest(&self, b: usize, k: usize) -> Option<NeedDigest>

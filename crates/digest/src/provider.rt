@@ -1,6 +1,7 @@
 // What a digest says of bundles as providers.
 ghost use Rattle.std.specs.Prelude.{◌<◌};
 
+use crate::number::Number;
 use kinds::version::Version;
 use shelf::limits::{EXPORTS, USES};
 
@@ -10,7 +11,7 @@ use shelf::limits::{EXPORTS, USES};
 pub struct ExportDigest {
     pub number: u16,
     pub version: Version,
-    pub used: [Option<u16>; USES],
+    pub used: [Number; USES],
     ghost small: { number < 1024 },
 }
 

@@ -1,21 +1,28 @@
 // What each bundle provides.
 ghost use Rattle.digest.specs.Meant.{meaning_of};
 ghost use Rattle.digest.specs.Packages.{Numbering};
-ghost use Rattle.digest.specs.Providers.{ExportAt, ProviderAt, Providing};
+ghost use Rattle.digest.specs.Providers.{ExportAt, ProviderAt, Providing, number_in};
 ghost use Rattle.shelf.specs.Meaning.{used_at};
 
 use crate::index::Names;
+use crate::number::Number;
 use crate::provider::{ExportDigest, ProviderDigest};
-use shelf::limits::PLACES;
+use shelf::limits::{EXPORTS, PLACES};
 use shelf::shelf::Shelf;
 use std::array;
 
 impl<'s, S: Shelf> Names<'s, S> {
     // The number of the k-th package that export j of b uses.
-    fn use_digest(&self, b: usize, j: usize, k: usize) -> Option<u16>
+    fn used(&self, b: usize, j: usize, k: usize) -> Option<u16>
         ensures { Numbering (meaning_of self.now) (used_at (meaning_of self.now) b j k) result }
     {
         self.number(self.shelf().used(b, j, k)?)
+    }
+
+    fn use_digest(&self, b: usize, j: usize, k: usize) -> Number
+        ensures { Numbering (meaning_of self.now) (used_at (meaning_of self.now) b j k) (number_in result) }
+    {
+        Number::of(self.used(b, j, k))
     }
 
     fn export_digest(&self, b: usize, j: usize) -> Option<ExportDigest>
@@ -23,7 +30,7 @@ impl<'s, S: Shelf> Names<'s, S> {
     {
         let export = self.shelf().export(b, j)?;
         Some(ExportDigest {
-            number: self.number(export.name)?,
+            number: self.export_number(b * EXPORTS + j)?,
             version: export.version,
             used: array::from_fn(|k| self.use_digest(b, j, k)),
         })

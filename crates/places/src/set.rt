@@ -1,5 +1,5 @@
 // A set of places 0 to 63, one bit to a place. What is not such a place is in no set.
-ghost use Rattle.std.specs.Prelude.{◌≡◌, ℕ, ◌<◌, ◌≤◌, true, false, not, ◌&&◌, ◌||◌, Decides, MatchOption};
+ghost use Rattle.std.specs.Prelude.{◌≡◌, ℕ, ◌<◌, ◌≤◌, true, false, not, ◌&&◌, ◌||◌, Decides, MatchOption, slice_index_or};
 ghost use Rattle.places.specs.Members.{only};
 ghost use Rattle.places.specs.Sets.{has, rank, Lowest};
 
@@ -17,15 +17,14 @@ impl PlaceSet {
         PlaceSet(0)
     }
 
-    // The places that pass the test.
-    pub fn those<F: Fn(usize) -> bool>(test: F) -> PlaceSet
-        requires { F.IsAlwaysCallable test }
-        ensures places { (p : ℕ) → p < 64 → F.post test p (has result p) }
+    // The places whose flag is set. Not by a closure for a test: that one would have to be one that may be called.
+    pub fn those(flags: &[bool; PLACES]) -> PlaceSet
+        ensures places { (p : ℕ) → p < 64 → has result p ≡ slice_index_or flags.now p false }
         ensures others { (p : ℕ) → 64 ≤ p → has result p ≡ false }
     {
         let mut found = PlaceSet::empty();
         for place in 0..PLACES {
-            if test(place) {
+            if flags[place] {
                 found.insert(place);
             }
         }

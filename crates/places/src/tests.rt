@@ -3,6 +3,7 @@ ghost use Rattle.std.specs.Prelude.{◌≡◌, ℕ, ◌&&◌, nat_lt};
 ghost use Rattle.places.specs.Sets.{has};
 
 use crate::set::PlaceSet;
+use std::array;
 
 #[test]
 fn in_and_out(rt: HostRuntime) {
@@ -27,7 +28,7 @@ fn is_under(place: usize, ceiling: usize) -> bool
 fn under(ceiling: usize) -> PlaceSet
     ensures { (p : ℕ) → has result p ≡ (nat_lt p ceiling && nat_lt p 64) }
 {
-    PlaceSet::those(|place| is_under(place, ceiling))
+    PlaceSet::those(&array::from_fn(|place| is_under(place, ceiling)))
 }
 
 #[test]
@@ -36,6 +37,6 @@ fn by_a_test(rt: HostRuntime) {
     set.insert(0);
     set.insert(1);
     assert_eq!(rt; under(2), set);
-    assert!(rt; PlaceSet::those(|place| place > 63).is_empty());
+    assert!(rt; PlaceSet::those(&array::from_fn(|place| place > 63)).is_empty());
     assert!(rt; PlaceSet::default() != set);
 }

@@ -12,6 +12,7 @@ use kinds::version::Version;
 use places::set::PlaceSet;
 use shelf::lookup::At;
 use shelf::shelf::Shelf;
+use std::array;
 
 // A shelf, and the controller that its bundles are to run on.
 #[derive_where(Clone, Copy)]
@@ -56,7 +57,7 @@ impl<'s, S: Shelf> Target<'s, S> {
     pub fn candidates(&self, b: usize, k: usize) -> PlaceSet
         ensures { (c : ℕ) → has result c ≡ candidate_at (S.Shelf.meaning self.now.shelf.now) self.now.controller b k c }
     {
-        PlaceSet::those(|c| self.is_candidate(b, k, c))
+        PlaceSet::those(&array::from_fn(|c| self.is_candidate(b, k, c)))
     }
 }
 

@@ -1,8 +1,9 @@
 // A partial wiring: the choices for some of the needs of a shelf's bundles.
-ghost use Rattle.std.specs.Prelude.{◌≡◌, ◌≤◌, ℕ, if◌then◌else◌, None, nat_eq};
+ghost use Rattle.std.specs.Prelude.{◌≡◌, ◌<◌, ◌≤◌, ◌↔◌, ℕ, if◌then◌else◌, [], ◌∷◌, ◌++◌, length, None, nat_eq, IsOk, OnOk, OnErr, IfErr};
 ghost use Rattle.wiring.specs.Counted.{count_of, table_of};
 ghost use Rattle.wiring.specs.Laws.{Extends};
 ghost use Rattle.wiring.specs.Steps.{Counts, Decide, Retract};
+ghost use Rattle.wiring.specs.declared.refusal.DecideRefusal.TheVariants.{AllDecided};
 
 use crate::choice::Choice;
 use crate::refusal::DecideRefusal;
@@ -49,9 +50,7 @@ impl PartialWiring {
         if place >= PLACES {
             return Err(DecideRefusal::NoSuchPlace);
         }
-        self.rows[place]
-            .try_push(choice)
-            .map_err(|_| DecideRefusal::AllDecided)
+        decide_next(&mut self.rows[place], choice)
     }
 
     // Opens the last decided need of the place again, and says what was chosen for it.
@@ -74,4 +73,14 @@ impl PartialWiring {
             self.rows[place].clear();
         }
     }
+}
+
+// Decides the first open need of the place that has the row.
+fn decide_next(row: &mut ArrayVec<Choice, NEEDS>, choice: Choice) -> Result<(), DecideRefusal>
+    ensures decides { OnOk result (row.new.items ≡ row.old.items ++ choice ∷ []) }
+    ensures keeps { OnErr result (row.new ≡ row.old) }
+    ensures fits { IsOk result ↔ (length row.old.items < 16) }
+    ensures why { IfErr result (λ refusal. refusal ≡ AllDecided) }
+{
+    row.try_push(choice).map_err(|_| DecideRefusal::AllDecided)
 }

@@ -5,13 +5,38 @@ use crate::partial::PartialWiring;
 use crate::refusal::DecideRefusal;
 use crate::table::ChoiceTable;
 use kinds::controller::ControllerNumber;
+use shelf::need::{Need, Resolution};
 use shelf::plain::PlainShelf;
-use shelf::samples::PANEL_AND_METER;
+use shelf::samples;
+use shelf::values::{PlainBundle, PlainExport};
 use std::test::Fail;
+
+const LAMP: PlainExport<'static> = PlainExport {
+    uses: &[],
+    ..samples::LAMP
+};
+
+const NEEDS_LAMP: Need<'static> = Need {
+    resolution: Resolution::Mandatory,
+    ..samples::NEEDS_LAMP
+};
+
+const METER: PlainBundle<'static> = PlainBundle {
+    exports: &[LAMP],
+    needs: &[NEEDS_LAMP],
+    ..samples::METER
+};
+
+const PANEL: PlainBundle<'static> = PlainBundle {
+    needs: &[NEEDS_LAMP],
+    ..samples::PANEL
+};
+
+const PLACES: &[Option<PlainBundle<'static>>] = &[Some(PANEL), None, Some(METER)];
 
 #[test]
 fn what_is_offered(rt: HostRuntime) -> Result<(), Fail> {
-    let shelf = PlainShelf::new(PANEL_AND_METER)?;
+    let shelf = PlainShelf::new(PLACES)?;
     let target = Target {
         shelf: &shelf,
         controller: ControllerNumber(7),

@@ -47,7 +47,7 @@ impl Digest {
     pub fn used(&self, b: usize, j: usize, k: usize) -> Option<usize>
         ensures { Tells self.now (λ m controller. Numbering m (used_at m b j k) result) }
     {
-        self.export(b, j)?.used.get(k)?.map(usize::from)
+        self.export(b, j)?.used.get(k)?.as_option()
     }
 
     // The places that export the package with that number.

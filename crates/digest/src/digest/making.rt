@@ -9,13 +9,14 @@ use crate::needs::Known;
 use kinds::controller::ControllerNumber;
 use places::set::PlaceSet;
 use shelf::shelf::Shelf;
+use std::array;
 use wiring::candidates::Target;
 
 // Which bundles run on the controller.
 fn fitting<S: Shelf>(target: &Target<'_, S>) -> PlaceSet
     ensures { Fitting (S.Shelf.meaning target.now.shelf.now) target.now.controller result }
 {
-    PlaceSet::those(|b| target.fits(b))
+    PlaceSet::those(&array::from_fn(|b| target.fits(b)))
 }
 
 // All that a search asks of the shelf, asked once.

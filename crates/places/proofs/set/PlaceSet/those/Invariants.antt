@@ -1,10 +1,10 @@
-use Rattle.std.proofs.Common.{◌≡◌, ℕ, ◌<◌, ◌≤◌, false}
+use Rattle.std.proofs.Common.{◌≡◌, ℕ, ◌<◌, ◌≤◌, false, get_or}
 use Rattle.places.specs.Sets.{has}
 use Rattle.places.proofs.set.PlaceSet.those.Given as goal
 
 abbrev pub invariant-loop-place : goal.invariant-loop-place
-invariant-loop-place g l =
+invariant-loop-place l =
     record {
-      asked : (p : ℕ) → p < l.place → goal.F-post g l.test p (has l.found p);
+      asked : (p : ℕ) → p < l.place → has l.found p ≡ get_or l.flags p false;
       others : (p : ℕ) → l.place ≤ p → has l.found p ≡ false;
     }

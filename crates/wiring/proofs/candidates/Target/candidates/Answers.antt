@@ -1,4 +1,5 @@
-use Rattle.std.proofs.Common.{rules}
+use Rattle.std.proofs.Common.{◌∙◌, rules}
+use Rattle.places.proofs.Made.{flags_made}
 use Rattle.places.proofs.Sets.{those-has}
 use Rattle.wiring.specs.Candidates.{candidate_at}
 use Rattle.wiring.proofs.Ruled.{candidate_past}
@@ -10,6 +11,8 @@ returns g c =
     let shelf = target.shelf.now in
     let m = g.S.Shelf.meaning shelf in
     let a = c.args in
-    those-has c.those.result (candidate_at m target.controller a.b a.k)
-    (λ p lt. let h = c.those.ensures.places p lt in search rules) c.those.ensures.others
+    let test = candidate_at m target.controller a.b a.k in
+    those-has c.those.result test
+    (λ p lt. c.those.ensures.places p lt ∙ flags_made _ test _ 64 (λ i y q r. search rules) _ c.from_fn.ensures.items p lt)
+    c.those.ensures.others
     (λ p le. candidate_past m target.controller a.b a.k p (g.met.S.Shelf.formed shelf) le)

@@ -1,6 +1,5 @@
-use Rattle.std.proofs.Common.{◌≡◌, rules}
+use Rattle.std.proofs.Common.{rules, tests}
 use Rattle.std.proofs.lemmas.Bool.Decides.{Decides-at}
-use Rattle.wiring.specs.Candidates.{candidate_at}
 use Rattle.wiring.proofs.Ruled.{candidate-decides}
 use Rattle.wiring.proofs.candidates.Target.is_candidate.Goals as goal
 
@@ -10,8 +9,7 @@ returns g c =
     let m = g.S.Shelf.meaning shelf in
     let controller = c.args.self.now.controller in
     let a = c.args in
-    let value : c.is_some.result ≡ candidate_at m controller a.b a.k a.c = search rules in
     record {
-      value = value;
-      rule = Decides-at _ _ value (candidate-decides m controller a.b a.k a.c (g.met.S.Shelf.formed shelf));
+      value = search (rules, tests);
+      rule = Decides-at _ _ (search (rules, tests)) (candidate-decides m controller a.b a.k a.c (g.met.S.Shelf.formed shelf));
     }
