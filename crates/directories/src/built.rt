@@ -4,11 +4,9 @@ use manifest::question::Question;
 use std::alloc::{AllocError, Global};
 use std::fmt::Write;
 
-// The question that refuses the text and the offset, if one does.
-pub(crate) fn refusal(text: &[u8]) -> Option<(Question, u32)> {
-    check(text)
-        .err()
-        .map(|refusal| (refusal.question, refusal.offset))
+// The question that refuses the text, its number and the offset, if one does.
+pub(crate) fn refusal(text: &[u8]) -> Option<(Question, u8, u32)> {
+    check(text).err().map(|refusal| (refusal.question, refusal.question.number(), refusal.offset))
 }
 
 // A header with that many clauses of one letter each, 26 at most; none without a clause.

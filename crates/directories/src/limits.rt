@@ -8,18 +8,18 @@ const IMPORT: &str = "Import-Package: ";
 const REQUIRE: &str = "Require-Bundle: ";
 
 // The headers of a bundle, each with its number of clauses, and why they are refused, if they are.
-const NEEDS: [(&[(&str, usize)], Option<(Question, u32)>); 6] = [
+const NEEDS: [(&[(&str, usize)], Option<(Question, u8, u32)>); 6] = [
     (&[(IMPORT, 16)], None),
     (&[(IMPORT, 15), (REQUIRE, 1)], None),
     (&[(REQUIRE, 15), (IMPORT, 1)], None),
-    (&[(IMPORT, 17)], Some((Question::OverLimit, 0))),
+    (&[(IMPORT, 17)], Some((Question::OverLimit, 9, 0))),
     (
         &[(IMPORT, 9), (REQUIRE, 8)],
-        Some((Question::OverLimit, 34)),
+        Some((Question::OverLimit, 9, 34)),
     ),
     (
         &[(REQUIRE, 8), (IMPORT, 9)],
-        Some((Question::OverLimit, 32)),
+        Some((Question::OverLimit, 9, 32)),
     ),
 ];
 
@@ -41,7 +41,7 @@ fn exports(rt: HostRuntime) -> Result<(), Fail> {
     seventeen.push_str("\n")?;
     assert_eq!(rt;
         refusal(seventeen.as_bytes()),
-        Some((Question::OverLimit, 0))
+        Some((Question::OverLimit, 9, 0))
     );
     Ok(())
 }
@@ -53,7 +53,7 @@ fn places(rt: HostRuntime) -> Result<(), Fail> {
     assert!(rt;
         matches!(
             refusal(more.as_bytes()),
-            Some((Question::TooManyBundles, _))
+            Some((Question::TooManyBundles, 12, _))
         )
     );
     Ok(())
@@ -68,7 +68,7 @@ fn lengths(rt: HostRuntime) -> Result<(), Fail> {
     );
     assert_eq!(rt;
         refusal(with_value(heap, "Bundle-SymbolicName: ", 49, "\n\n")?.as_bytes()),
-        Some((Question::OverLimit, 0))
+        Some((Question::OverLimit, 9, 0))
     );
     assert_eq!(rt;
         refusal(with_value(heap, "", 64, ": x\nBundle-SymbolicName: s\n\n")?.as_bytes()),
@@ -76,7 +76,7 @@ fn lengths(rt: HostRuntime) -> Result<(), Fail> {
     );
     assert_eq!(rt;
         refusal(with_value(heap, "", 65, ": x\nBundle-SymbolicName: s\n\n")?.as_bytes()),
-        Some((Question::NotAHeader, 0))
+        Some((Question::NotAHeader, 5, 0))
     );
     assert_eq!(rt;
         refusal(with_value(heap, "X: ", 65508, "\nBundle-SymbolicName: s\n\n")?.as_bytes()),
@@ -84,7 +84,7 @@ fn lengths(rt: HostRuntime) -> Result<(), Fail> {
     );
     assert_eq!(rt;
         refusal(with_value(heap, "X: ", 65509, "\nBundle-SymbolicName: s\n\n")?.as_bytes()),
-        Some((Question::TextTooLong, 0))
+        Some((Question::TextTooLong, 1, 0))
     );
     Ok(())
 }
@@ -97,6 +97,6 @@ fn used_names(rt: HostRuntime) {
     );
     assert_eq!(rt;
         refusal(b"Export-Package: p;uses:=\"a,b,c,d,e,f,g,h,i\"\nBundle-SymbolicName: s\n\n"),
-        Some((Question::OverLimit, 0))
+        Some((Question::OverLimit, 9, 0))
     );
 }

@@ -1,14 +1,12 @@
 -- What `all` answers, where the test of a list asks one element after the other.
-use Rattle.std.proofs.Common.{◌≡◌, ℕ, ◌<◌, Bool, true, false, ◌&&◌, List, [], ◌∷◌, length, is_some, Some, None, Option, refl, arith}
+use Rattle.std.proofs.Common.{◌≡◌, ℕ, ◌<◌, Bool, true, false, ◌&&◌, List, [], ◌∷◌, length, Option, arith}
 use Rattle.std.proofs.lemmas.Iterator.{YieldsList, cases_from_all}
 use Rattle.std.proofs.lemmas.List.Recursion.{and_is}
 use Rattle.std.specs.Bool.{MatchBool}
 use Rattle.std.specs.Iterator.{YieldsThen}
 use Rattle.std.specs.List.{AllWithin, FoldsTo, HoldsAt}
-use Rattle.std.specs.Option.{MatchOption, option_map}
+use Rattle.std.specs.Option.{MatchOption}
 use denote.Param.Members.{Called, Mut}
-use Rattle.shelf.specs.Meaning.{bound}
-use Rattle.manifest.specs.Clauses.{each}
 
 module _ {X : Type 0} (test : List X → Bool) (p : X → Bool) (none : test [] ≡ true) (more : (x : X) (xs : List X) → test (x ∷ xs) ≡ (p x && test xs)) where
   all_of : (xs : List X) (d : X) (r : Bool)
@@ -24,12 +22,3 @@ module _ {X : Type 0} (test : List X → Bool) (p : X → Bool) (none : test [] 
       → ((x : A) (q : F) → Called g f (x, tt) false q → p (v x) ≡ false)
       → r ≡ test items
   all-says {items = items} u f d r ran yields pass fail = all_of items d r (cases_from_all u f r (λ x. p x ≡ true) (λ x. p x ≡ false) ran yields pass fail)
-
--- whether `each` gives a list is asked of one element after the other
-pub each-test : {X Y : Type 0} (f : X → Option Y) (x : X) (xs : List X) → is_some (each f (x ∷ xs)) ≡ (is_some (f x) && is_some (each f xs))
-each-test {X} {Y} f x xs = go (f x) (each f xs)
-  where
-    go : (o : Option Y) (e : Option (List Y)) → is_some (bound o (λ y. option_map (λ ys. y ∷ ys) e)) ≡ (is_some o && is_some e)
-    go None e = refl
-    go (Some y) None = refl
-    go (Some y) (Some ys) = refl

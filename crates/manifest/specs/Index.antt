@@ -1,14 +1,20 @@
 -- What the entries of the index say.
-use Rattle.std.specs.Prelude.{List, map}
+use Rattle.std.specs.Prelude.{ℕ, List, [], map, Option}
+use Rattle.std.specs.Borrow.{Bor}
+use Rattle.std.specs.Option.{option_map, unwrap_or}
 use Rattle.arrayvec.specs.ArrayVec.{ArrayVec}
 use Rattle.shelf.specs.declared.need.Need as asked
 use Rattle.shelf.specs.Lent.{need_of}
-use Rattle.shelf.specs.Meaning.{Export, Need, Bundle}
+use Rattle.shelf.specs.Meaning.{Name, Export, Need, Bundle}
 use Rattle.manifest.specs.declared.entry.BundleEntry.{BundleEntry}
 use Rattle.manifest.specs.declared.entry.ExportEntry.{ExportEntry}
 
+-- the names of a list, none where it is not given
+abbrev pub used_in : Option (ArrayVec (Bor (List ℕ))) → List Name
+used_in names = unwrap_or (option_map (λ v. map (λ u. u.now) v.items) names) []
+
 abbrev pub export_in : ExportEntry → Export
-export_in e = record { name = e.name.now; version = e.version; uses = map (λ u. u.now) e.uses.items }
+export_in e = record { name = e.name.now; version = e.version; uses = used_in e.uses }
 
 abbrev pub exports_in : ArrayVec ExportEntry → List Export
 exports_in es = map export_in es.items
@@ -22,7 +28,7 @@ bundle_in b =
       name = b.name.now;
       version = b.version;
       controllers = b.controllers;
-      exports = exports_in b.exports;
+      exports = unwrap_or (option_map exports_in b.exports) [];
       needs = needs_in b.needs;
     }
 

@@ -3,21 +3,17 @@ use Rattle.std.specs.Prelude.{ℕ, ◌+◌, Bool, cond, ◌&&◌, List, [], ◌�
 use Rattle.std.specs.Borrow.{Bor}
 use Rattle.std.specs.Option.{unwrap_or}
 use Rattle.text.specs.Bytes.{equal}
-use Rattle.shelf.specs.Meaning.{Name, Need, bound}
+use Rattle.shelf.specs.Meaning.{Name, Need}
 use Rattle.shelf.specs.declared.need.NeedKind.{NeedKind}
 use Rattle.shelf.specs.declared.need.NeedKind.TheVariants.{Import, Require}
 use Rattle.shelf.specs.declared.need.Visibility.{Visibility}
 use Rattle.shelf.specs.declared.need.Visibility.TheVariants.{Private}
 use Rattle.manifest.specs.declared.header.Grammar.{Grammar}
 use Rattle.manifest.specs.declared.header.Grammar.TheVariants.{Exports, Imports, Requires}
-use Rattle.manifest.specs.Clauses.{RawClause, clause}
+use Rattle.manifest.specs.Clauses.{RawClause, each}
 use Rattle.manifest.specs.Names.{all}
 use Rattle.manifest.specs.Questions.{asks, gets}
 use Rattle.manifest.specs.Values.{need_of, short_name}
-
--- what a clause reads as
-abbrev pub read_by : {X : Type 0} → Grammar → (RawClause → Option X) → List ℕ → Option X
-read_by g reads text = bound (clause g text) reads
 
 abbrev pub kind_by : Grammar → Option Visibility → NeedKind
 kind_by Exports v = Import
@@ -41,6 +37,10 @@ few_names ns = nat_le (length ns) 8 && all short_name ns
 -- at most n with the others, and each small
 abbrev pub few : {X : Type 0} → ℕ → (X → Bool) → ℕ → List X → Bool
 few n small others xs = nat_le (others + length xs) n && all small xs
+
+-- the questions 7 to 9 of a value's clauses: all follow the form, all read, and they are few enough by themselves
+abbrev pub clauses_kept : {X : Type 0} → ℕ → (X → Bool) → (RawClause → Option X) → Option (List RawClause) → Result (List X) ℕ
+clauses_kept n small reads clauses = gets 7 clauses (λ cs. kept (few n small 0) (each reads cs))
 
 -- kept where it passes
 abbrev pub within : {X : Type 0} → (X → Bool) → X → Option X

@@ -20,7 +20,7 @@ pub fn bundle_of<'a>(name: &'a [u8], draft: Draft<'a>) -> BundleEntry<'a>
         name,
         version: draft.version.unwrap_or_default(),
         controllers: draft.controllers.unwrap_or_default(),
-        exports: draft.exports.unwrap_or_default(),
+        exports: draft.exports,
         needs,
     }
 }

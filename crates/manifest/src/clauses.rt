@@ -1,7 +1,7 @@
 // Clauses: a name and its parameters.
-ghost use Rattle.std.specs.Prelude.{◌≡◌, is_some};
+ghost use Rattle.std.specs.Prelude.{◌≡◌};
 ghost use Rattle.std.specs.Option.{option_map};
-ghost use Rattle.manifest.specs.Clauses.{clause as clause_in, form};
+ghost use Rattle.manifest.specs.Clauses.{clause as clause_in};
 ghost use Rattle.manifest.specs.Parts.{raw_in};
 
 use crate::clause::RawEntry;
@@ -28,11 +28,4 @@ pub fn clause(piece: &[u8], grammar: Grammar) -> Option<RawEntry<'_>>
         clause = with_parameter(clause, parameter(piece, grammar)?)?;
     }
     Some(clause)
-}
-
-// Whether the value is clauses between commas.
-pub fn follows_form(value: &[u8], grammar: Grammar) -> bool
-    ensures { result ≡ is_some (form grammar value.now) }
-{
-    Pieces::outside_quotes(value, b',').all(|piece| clause(piece, grammar).is_some())
 }

@@ -5,16 +5,14 @@ ghost use Rattle.text.specs.Splitting.{parts};
 ghost use Rattle.manifest.specs.Index.{bundles_in};
 ghost use Rattle.manifest.specs.Numbers.{first_no};
 ghost use Rattle.manifest.specs.Reading.{reading, start, stray_line, walk};
+ghost use Rattle.manifest.specs.States.{state_in};
 
 use crate::chars::{are_printable, is_closed};
-use crate::entry::BundleEntry;
 use crate::limits::LONGEST_TEXT;
 use crate::lines::Lines;
 use crate::question::Question;
 use crate::reader::Reader;
 use crate::refusal::Refusal;
-use arrayvec::ArrayVec;
-use shelf::limits::PLACES;
 
 // The offset of the first line that has a stray byte.
 fn stray_line(text: &[u8]) -> Option<u32>
@@ -28,22 +26,23 @@ fn stray_line(text: &[u8]) -> Option<u32>
 
 // Line by line, from the first.
 #[tactic(auto, using(crate::proofs::Walks::walk_is))]
-fn read_lines(text: &[u8]) -> Result<ArrayVec<BundleEntry<'_>, PLACES>, Refusal>
-    requires { length text.now ≤ 65536 }
-    ensures { result_map_both bundles_in first_no result ≡ walk 0 start (parts 10 text.now) }
+fn read_lines<'a>(text: &'a [u8], reader: &mut Reader<'a>) -> Result<(), Refusal>
+    requires { (length text.now ≤ 65536) × (state_in reader.old ≡ start) }
+    ensures { result_map_both (λ _. bundles_in reader.new.bundles) first_no result ≡ walk 0 start (parts 10 text.now) }
 {
-    let mut reader = Reader::default();
     for (offset, line) in Lines::of(text) {
         reader.line(line).map_err(|question| question.at(offset))?;
     }
-    Ok(reader.bundles)
+    Ok(())
 }
 
-// The bundles, or the first question that is answered no.
+// The bundles, or the first question that is answered no. They are left in the reader, which its caller lends: an index is too large a value
+// to be handed on for nothing.
 #[tactic(auto, unfolding(crate::specs::Reading::reading))]
-pub fn read_directory(text: &[u8]) -> Result<ArrayVec<BundleEntry<'_>, PLACES>, Refusal>
-    ensures { result_map_both bundles_in first_no result ≡ reading text.now }
+pub fn read_directory<'a>(text: &'a [u8], reader: &mut Reader<'a>) -> Result<(), Refusal>
+    ensures { result_map_both (λ _. bundles_in reader.new.bundles) first_no result ≡ reading text.now }
 {
+    reader.restart();
     if text.len() > LONGEST_TEXT {
         return Err(Question::TextTooLong.at(0));
     }
@@ -51,10 +50,10 @@ pub fn read_directory(text: &[u8]) -> Result<ArrayVec<BundleEntry<'_>, PLACES>, 
         return Err(Question::StrayByte.at(offset));
     }
     if text.is_empty() {
-        return Ok(ArrayVec::new());
+        return Ok(());
     }
     if !is_closed(text) {
         return Err(Question::NotClosed.at(text.len() as u32));
     }
-    read_lines(&text[..text.len() - 1])
+    read_lines(&text[..text.len() - 1], reader)
 }

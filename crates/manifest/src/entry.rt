@@ -1,4 +1,5 @@
-// What the clauses and manifests of a directory are read as; each name is a part of the text.
+// What the clauses and manifests of a directory are read as; each name is a part of the text. Exports and used names that are not given
+// are `None`: an `ArrayVec` is as long empty as full, and an index of blank ones would cost more to make than many a directory to read.
 use arrayvec::ArrayVec;
 use kinds::controller::ControllerNumber;
 use kinds::range::Range;
@@ -10,7 +11,7 @@ use shelf::need::Need;
 pub struct ExportEntry<'a> {
     pub name: &'a [u8],
     pub version: Version,
-    pub uses: ArrayVec<&'a [u8], USES>,
+    pub uses: Option<ArrayVec<&'a [u8], USES>>,
 }
 
 // It owns its lists, where the plain bundle of `shelf` lends them: one type over both would take two parameters for who holds the lists,
@@ -20,6 +21,6 @@ pub struct BundleEntry<'a> {
     pub name: &'a [u8],
     pub version: Version,
     pub controllers: Range<ControllerNumber>,
-    pub exports: ArrayVec<ExportEntry<'a>, EXPORTS>,
+    pub exports: Option<ArrayVec<ExportEntry<'a>, EXPORTS>>,
     pub needs: ArrayVec<Need<'a>, NEEDS>,
 }

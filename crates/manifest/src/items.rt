@@ -1,5 +1,5 @@
 // What a clause is read as.
-ghost use Rattle.std.specs.Prelude.{◌≡◌, Bool, [], map, Ok, Option};
+ghost use Rattle.std.specs.Prelude.{◌≡◌, Bool, [], map, Ok, Option, Some};
 ghost use Rattle.std.specs.Option.{option_map, unwrap_or};
 ghost use Rattle.std.specs.Result.{result_map_both};
 ghost use Rattle.text.specs.Splitting.{parts};
@@ -7,7 +7,7 @@ ghost use Rattle.shelf.specs.Lent.{need_of};
 ghost use Rattle.shelf.specs.Meaning.{Name, Export, Need as NeedSaid};
 ghost use Rattle.manifest.specs.declared.header.Grammar.{Grammar};
 ghost use Rattle.manifest.specs.Clauses.{RawClause};
-ghost use Rattle.manifest.specs.Index.{export_in};
+ghost use Rattle.manifest.specs.Index.{export_in, used_in};
 ghost use Rattle.manifest.specs.Numbers.{number_of};
 ghost use Rattle.manifest.specs.Parts.{names_in, raw_in};
 ghost use Rattle.manifest.specs.Stages.{few_names, kept, kind_by, need_by, read_or, short_need, within};
@@ -71,7 +71,7 @@ impl<'a> Entry<'a> for ExportEntry<'a> {
 
     fn from_clause(clause: RawEntry<'a>, _grammar: Grammar) -> Result<ExportEntry<'a>, Question> {
         let version = clause.read()?;
-        let uses = used_names(clause.uses).ok_or(Question::OverLimit)?;
+        let uses = used_names(clause.uses)?;
         Ok(ExportEntry {
             name: clause.name,
             version,
@@ -120,10 +120,14 @@ impl RawEntry<'_> {
 }
 
 // The names that an export uses, if they keep the limits; none where none are given.
-fn used_names(given: Option<&[u8]>) -> Option<ArrayVec<&[u8], USES>>
-    ensures { option_map (λ v. map (λ u. u.now) v.items) result ≡ within few_names (unwrap_or (option_map names_in given.entry) []) }
+fn used_names(given: Option<&[u8]>) -> Result<Option<ArrayVec<&[u8], USES>>, Question>
+    ensures { result_map_both used_in number_of result ≡ kept few_names (Some (unwrap_or (option_map names_in given.entry) [])) }
 {
-    given.map_or(Some(ArrayVec::new()), names)
+    let Some(list) = given else {
+        return Ok(None);
+    };
+    let found = names(list).ok_or(Question::OverLimit)?;
+    Ok(Some(found))
 }
 
 // The names between commas.

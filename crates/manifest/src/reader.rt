@@ -22,6 +22,14 @@ pub struct Reader<'a> {
 }
 
 impl<'a> Reader<'a> {
+    // Nothing is read yet.
+    pub fn restart(&mut self)
+        ensures { state_in self.new ≡ start }
+    {
+        self.bundles.clear();
+        self.draft = Draft::default();
+    }
+
     // The empty line that closes a manifest.
     fn close(&mut self) -> Result<(), Question>
         ensures { result_map_both (λ _. state_in self.new) number_of result ≡ close_step (state_in self.old) }

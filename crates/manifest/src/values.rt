@@ -6,7 +6,6 @@ ghost use Rattle.manifest.specs.Numbers.{number_of};
 ghost use Rattle.manifest.specs.Stages.{few, need_by};
 ghost use Rattle.manifest.specs.Values.{clauses_in, exports_in as exports_of, few_needs, symbolic_name_in};
 
-use crate::clauses::follows_form;
 use crate::entry::ExportEntry;
 use crate::header::Grammar;
 use crate::items::{Entry, is_short};
@@ -55,9 +54,6 @@ fn clauses_of<'a, T: Entry<'a>, const N: usize>(
 ) -> Result<ArrayVec<T, N>, Question>
     ensures { result_map_both (λ v. map T.said v.items) number_of result ≡ clauses_in grammar (T.reads grammar) (few N T.small others) T.called value.now }
 {
-    if !follows_form(value, grammar) {
-        return Err(Question::Malformed);
-    }
     let list = entries(value, grammar)?;
     if list.remaining_capacity() < others {
         return Err(Question::OverLimit);

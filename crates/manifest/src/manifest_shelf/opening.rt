@@ -5,7 +5,7 @@ ghost use Rattle.manifest.specs.Shelves.{meaning_of, or_empty};
 
 use super::ManifestShelf;
 use crate::directory::read_directory;
-use arrayvec::ArrayVec;
+use crate::reader::Reader;
 
 impl<'a> ManifestShelf<'a> {
     // The bundles of the directory in their order; none where the text is refused. That opening cannot fail is promised to callers: a
@@ -13,12 +13,17 @@ impl<'a> ManifestShelf<'a> {
     pub fn open(text: &'a [u8]) -> ManifestShelf<'a>
         ensures { meaning_of result ≡ map Some (or_empty (reading text.now)) }
     {
-        let Ok(bundles) = read_directory(text) else {
+        let mut reader = Reader::default();
+        if read_directory(text, &mut reader).is_err() {
+            reader.restart();
             return ManifestShelf {
                 text: b"",
-                bundles: ArrayVec::new(),
+                bundles: reader.bundles,
             };
-        };
-        ManifestShelf { text, bundles }
+        }
+        ManifestShelf {
+            text,
+            bundles: reader.bundles,
+        }
     }
 }

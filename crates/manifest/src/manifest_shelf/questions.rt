@@ -26,7 +26,7 @@ impl<'a> ManifestShelf<'a> {
     fn export_entry(&self, place: usize, j: usize) -> Option<&ExportEntry<'a>>
         ensures { option_map (λ e. export_in e.now) result ≡ export_at (meaning_of self.now) place j }
     {
-        self.bundle(place)?.exports.get(j)
+        self.bundle(place)?.exports.as_ref()?.get(j)
     }
 }
 
@@ -64,7 +64,7 @@ impl Shelf for ManifestShelf<'_> {
     }
 
     fn used(&self, place: usize, j: usize, k: usize) -> Option<&[u8]> {
-        self.export_entry(place, j)?.uses.get(k).copied()
+        self.export_entry(place, j)?.uses.as_ref()?.get(k).copied()
     }
 
     fn need(&self, place: usize, k: usize) -> Option<Need<'_>> {
