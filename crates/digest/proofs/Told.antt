@@ -1,5 +1,5 @@
 -- What is read from the arrays of a digest.
-use Rattle.std.proofs.Common.{◌≡◌, ℕ, ◌≤◌, Bool, true, false, List, is_some, Some, None, MatchOption, Option, sym, refl, ap, ◌∙◌, arith, Bor}
+use Rattle.std.proofs.Common.{◌≡◌, ℕ, ◌≤◌, Bool, true, false, List, is_some, Some, None, MatchOption, Option, sym, ap, ◌∙◌, arith, Bor}
 use Rattle.std.specs.Option.{option_copied, option_map}
 use Rattle.std.specs.Slice.{IsItemAt}
 use Rattle.std.proofs.lemmas.Bool.{both_ways}
@@ -51,38 +51,40 @@ module _ (m : Meaning) (controller : ControllerNumber) (b k : ℕ) (r : Bool) wh
   optional_told (Some d) (n, there, is) h = h ∙ ap may_stay is.resolution ∙ sym (ap optional_in there)
 
 -- Who can serve a need that is read.
-pub candidates_told : (m : Meaning) (controller : ControllerNumber) (b k : ℕ) (r e : PlaceSet) → ((c : ℕ) → has e c ≡ false) → (o : Option NeedDigest) → NeedAt m controller b k o → MatchOption o (r ≡ e) (λ d. r ≡ d.candidates) →
-    (c : ℕ) → has r c ≡ candidate_at m controller b k c
-candidates_told m controller b k r e empty None none h c = ap (λ s. has s c) h ∙ empty c ∙ sym (ap (λ o. is_some (bound o (λ n. offered m controller b n c))) none)
-candidates_told m controller b k r e empty (Some d) (n, there, is) h c = ap (λ s. has s c) h ∙ is.candidates c ∙ sym (ap (λ o. is_some (bound o (λ n. offered m controller b n c))) there)
+pub candidates_told : (m : Meaning) (controller : ControllerNumber) (b k : ℕ) (r e : PlaceSet) (o : Option NeedDigest) (Q : NeedDigest → Type 0) → NeedAt m controller b k o → MatchOption o (r ≡ e) Q →
+    ((c : ℕ) → has e c ≡ false) → ((d : NeedDigest) → Q d → r ≡ d.candidates) → (c : ℕ) → has r c ≡ candidate_at m controller b k c
+candidates_told m controller b k r e None Q none h empty read c = ap (λ s. has s c) h ∙ empty c ∙ sym (ap (λ o. is_some (bound o (λ n. offered m controller b n c))) none)
+candidates_told m controller b k r e (Some d) Q (n, there, is) h empty read c = ap (λ s. has s c) (read d h) ∙ is.candidates c ∙ sym (ap (λ o. is_some (bound o (λ n. offered m controller b n c))) there)
 
--- The version that c offers for a need that is there.
-module _ (m : Meaning) (w : WellFormed m) (controller : ControllerNumber) (b c : ℕ) (n : Need) (d : NeedDigest) (is : IsNeed m controller b n d) where
-  pub unserved : has d.candidates c ≡ false → None ≡ offered m controller b n c
-  unserved h = go (offered m controller b n c) (sym (is.candidates c) ∙ h)
-    where
-      go : (o : Option Version) → is_some o ≡ false → None ≡ o
-      go None e = refl
-      go (Some v) e = absurd (cc)
+-- Who is no candidate offers nothing, so an answer that is no version is right.
+pub unserved : (r o : Option Version) → r ≡ None → is_some o ≡ false → r ≡ o
+unserved r None none e = none
+unserved r (Some v) none e = absurd (cc)
 
-  module _ (served : has d.candidates c ≡ true) where
-    serves : candidate m controller b n c ≡ true
-    serves = sym (is.candidates c) ∙ served
+-- A candidate for need k is in the set that stands for the need.
+pub serving : (m : Meaning) (controller : ControllerNumber) (b k c : ℕ) (n : Need) (d : NeedDigest) → need_at m b k ≡ Some n → IsNeed m controller b n d → candidate_at m controller b k c ≡ true → has d.candidates c ≡ true
+serving m controller b k c n d there is served = is.candidates c ∙ sym (ap (λ o. is_some (bound o (λ n. offered m controller b n c))) there) ∙ served
 
-    pub never_unnumbered : d.kind ≡ Import → d.imports ≡ None → ⊥
-    never_unnumbered k none =
-        let imports = is.imports in
-        both_ways _ (own_none m w n c (rw none at imports)) (served_own m controller b n c serves (sym is.kind ∙ k))
+-- The version that c offers for a need that is there, if it is a candidate.
+module _ (m : Meaning) (w : WellFormed m) (controller : ControllerNumber) (b c : ℕ) (n : Need) (d : NeedDigest) (is : IsNeed m controller b n d)
+    (served : has d.candidates c ≡ true) where
+  serves : candidate m controller b n c ≡ true
+  serves = sym (is.candidates c) ∙ served
 
-    pub never_absent : bundle_at m c ≡ None → ⊥
-    never_absent none = both_ways (fits m controller c) (ap (λ o. range_holds (option_map (λ x. x.controllers) o) controller) none) (served_fits m controller b n c serves)
+  pub never_unnumbered : d.kind ≡ Import → d.imports ≡ None → ⊥
+  never_unnumbered k none =
+      let imports = is.imports in
+      both_ways _ (own_none m w n c (rw none at imports)) (served_own m controller b n c serves (sym is.kind ∙ k))
 
-    pub offers_import : (number : ℕ) (r : Option Version) → d.kind ≡ Import → d.imports ≡ Some number → ((q : _) → NumberOf m q number → r ≡ exported m c q) → r ≡ offered m controller b n c
-    offers_import number r k some found =
-        let imports = is.imports in
-        let (q, e, f) = rw some at imports in
-        let (kind, name) = imported_name n.kind n.name q e in
-        found q f ∙ ap (exported m c) (sym name) ∙ sym (served_import m controller b n c serves kind)
+  pub never_absent : bundle_at m c ≡ None → ⊥
+  never_absent none = both_ways (fits m controller c) (ap (λ o. range_holds (option_map (λ x. x.controllers) o) controller) none) (served_fits m controller b n c serves)
 
-    pub offers_require : (v : Visibility) (r : Option Version) → d.kind ≡ Require v → version_at m c ≡ r → r ≡ offered m controller b n c
-    offers_require v r k version = sym version ∙ sym (served_require m controller b n c serves v (sym is.kind ∙ k))
+  pub offers_import : (number : ℕ) (r : Option Version) → d.kind ≡ Import → d.imports ≡ Some number → ((q : _) → NumberOf m q number → r ≡ exported m c q) → r ≡ offered m controller b n c
+  offers_import number r k some found =
+      let imports = is.imports in
+      let (q, e, f) = rw some at imports in
+      let (kind, name) = imported_name n.kind n.name q e in
+      found q f ∙ ap (exported m c) (sym name) ∙ sym (served_import m controller b n c serves kind)
+
+  pub offers_require : (v : Visibility) (r : Option Version) → d.kind ≡ Require v → version_at m c ≡ r → r ≡ offered m controller b n c
+  offers_require v r k version = sym version ∙ sym (served_require m controller b n c serves v (sym is.kind ∙ k))

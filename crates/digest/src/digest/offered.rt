@@ -14,10 +14,10 @@ impl Digest {
     pub fn offered(&self, b: usize, k: usize, c: usize) -> Option<Version>
         ensures { Tells self.now (λ m controller. result ≡ offered_at m controller b k c) }
     {
-        let need = self.need(b, k)?;
-        if !need.candidates.contains(c) {
+        if !self.candidates(b, k).contains(c) {
             return None;
         }
+        let need = self.need(b, k)?;
         match need.kind {
             NeedKind::Import => self.version_of(c, need.imports?),
             NeedKind::Require(_) => Some(self.provider(c)?.version),
