@@ -52,9 +52,9 @@ module _ (m : Meaning) (controller : ControllerNumber) (b k : ℕ) (r : Bool) wh
 
 -- Who can serve a need that is read.
 pub candidates_told : (m : Meaning) (controller : ControllerNumber) (b k : ℕ) (r e : PlaceSet) (o : Option NeedDigest) (Q : NeedDigest → Type 0) → NeedAt m controller b k o → MatchOption o (r ≡ e) Q →
-    ((c : ℕ) → has e c ≡ false) → ((d : NeedDigest) → Q d → r ≡ d.candidates) → (c : ℕ) → has r c ≡ candidate_at m controller b k c
+    ((c : ℕ) → has e c ≡ false) → ((d : NeedDigest) → Q d → (c : ℕ) → has r c ≡ has d.candidates c) → (c : ℕ) → has r c ≡ candidate_at m controller b k c
 candidates_told m controller b k r e None Q none h empty read c = ap (λ s. has s c) h ∙ empty c ∙ sym (ap (λ o. is_some (bound o (λ n. offered m controller b n c))) none)
-candidates_told m controller b k r e (Some d) Q (n, there, is) h empty read c = ap (λ s. has s c) (read d h) ∙ is.candidates c ∙ sym (ap (λ o. is_some (bound o (λ n. offered m controller b n c))) there)
+candidates_told m controller b k r e (Some d) Q (n, there, is) h empty read c = read d h c ∙ is.candidates c ∙ sym (ap (λ o. is_some (bound o (λ n. offered m controller b n c))) there)
 
 -- Who is no candidate offers nothing, so an answer that is no version is right.
 pub unserved : (r o : Option Version) → r ≡ None → is_some o ≡ false → r ≡ o
