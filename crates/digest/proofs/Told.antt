@@ -11,7 +11,7 @@ use Rattle.places.specs.declared.set.PlaceSet.{PlaceSet}
 use Rattle.shelf.specs.Meaning.{Name, Need, Meaning, WellFormed, bound, bundle_at, need_at, version_at}
 use Rattle.shelf.specs.declared.need.NeedKind.TheVariants.{Import, Require}
 use Rattle.shelf.specs.declared.need.Visibility.{Visibility}
-use Rattle.wiring.specs.Candidates.{range_holds, candidate, candidate_at, exported, fits, need_own, offered, own_at}
+use Rattle.wiring.specs.Candidates.{range_holds, candidate, candidate_at, exported, fits, need_own, offered, offered_at, own_at}
 use Rattle.digest.specs.Each.{Each}
 use Rattle.digest.specs.Needs.{IsNeed, NeedAt, may_stay, optional_in}
 use Rattle.digest.specs.Packages.{NumberOf, Numbering}
@@ -50,11 +50,19 @@ module _ (m : Meaning) (controller : ControllerNumber) (b k : ℕ) (r : Bool) wh
   optional_told None none h = h ∙ sym (ap optional_in none)
   optional_told (Some d) (n, there, is) h = h ∙ ap may_stay is.resolution ∙ sym (ap optional_in there)
 
+-- What is offered for need k of b, and by whom, once it is known which need that is.
+module _ (m : Meaning) (controller : ControllerNumber) (b k c : ℕ) {o : Option Need} (there : need_at m b k ≡ o) where
+  pub offered_of : bound o (λ n. offered m controller b n c) ≡ offered_at m controller b k c
+  offered_of = sym (ap (λ o. bound o (λ n. offered m controller b n c)) there)
+
+  pub candidate_of : is_some (bound o (λ n. offered m controller b n c)) ≡ candidate_at m controller b k c
+  candidate_of = ap is_some offered_of
+
 -- Who can serve a need that is read.
 pub candidates_told : (m : Meaning) (controller : ControllerNumber) (b k : ℕ) (r e : PlaceSet) (o : Option NeedDigest) (Q : NeedDigest → Type 0) → NeedAt m controller b k o → MatchOption o (r ≡ e) Q →
     ((c : ℕ) → has e c ≡ false) → ((d : NeedDigest) → Q d → (c : ℕ) → has r c ≡ has d.candidates c) → (c : ℕ) → has r c ≡ candidate_at m controller b k c
-candidates_told m controller b k r e None Q none h empty read c = ap (λ s. has s c) h ∙ empty c ∙ sym (ap (λ o. is_some (bound o (λ n. offered m controller b n c))) none)
-candidates_told m controller b k r e (Some d) Q (n, there, is) h empty read c = read d h c ∙ is.candidates c ∙ sym (ap (λ o. is_some (bound o (λ n. offered m controller b n c))) there)
+candidates_told m controller b k r e None Q none h empty read c = ap (λ s. has s c) h ∙ empty c ∙ candidate_of m controller b k c none
+candidates_told m controller b k r e (Some d) Q (n, there, is) h empty read c = read d h c ∙ is.candidates c ∙ candidate_of m controller b k c there
 
 -- Who is no candidate offers nothing, so an answer that is no version is right.
 pub unserved : (r o : Option Version) → r ≡ None → is_some o ≡ false → r ≡ o
@@ -63,7 +71,7 @@ unserved r (Some v) none e = absurd (cc)
 
 -- A candidate for need k is in the set that stands for the need.
 pub serving : (m : Meaning) (controller : ControllerNumber) (b k c : ℕ) (n : Need) (d : NeedDigest) → need_at m b k ≡ Some n → IsNeed m controller b n d → candidate_at m controller b k c ≡ true → has d.candidates c ≡ true
-serving m controller b k c n d there is served = is.candidates c ∙ sym (ap (λ o. is_some (bound o (λ n. offered m controller b n c))) there) ∙ served
+serving m controller b k c n d there is served = is.candidates c ∙ candidate_of m controller b k c there ∙ served
 
 -- The version that c offers for a need that is there, if it is a candidate.
 module _ (m : Meaning) (w : WellFormed m) (controller : ControllerNumber) (b c : ℕ) (n : Need) (d : NeedDigest) (is : IsNeed m controller b n d)

@@ -10,8 +10,8 @@ use Rattle.wiring.specs.Cells.{choice_in}
 any-replicate : {X : Type 0} (n : ℕ) (x d : X) (i : ℕ) → (get_or (replicate n x) i d ≡ x) ⊎ (get_or (replicate n x) i d ≡ d)
 any-replicate {X} n x d i = grind (arith, get_or-replicate, get_or_past, length-replicate {A = X}, cases_lt i n)
 
-pub fresh : (n m b k : ℕ) → choice_in (replicate n (replicate m Unwired)) b k ≡ Unwired
-fresh n m b k = grind (arith, any-replicate n (replicate m Unwired) [] b, any-replicate m Unwired Unwired k)
+pub fresh : (x : Choice) (n m b k : ℕ) → x ≡ Unwired → choice_in (replicate n (replicate m x)) b k ≡ Unwired
+fresh x n m b k unwired = grind (arith, any-replicate n (replicate m x) [] b, any-replicate m x Unwired k)
 
-pub fresh-full : (n m k : ℕ) (d : List Choice) → k < n → length (get_or (replicate n (replicate m Unwired)) k d) ≡ m
-fresh-full n m k d lt = grind (arith, get_or-replicate, length-replicate {A = Choice})
+pub fresh-full : (x : Choice) (n m k : ℕ) (d : List Choice) → k < n → length (get_or (replicate n (replicate m x)) k d) ≡ m
+fresh-full x n m k d lt = grind (arith, get_or-replicate, length-replicate {A = Choice})

@@ -1,7 +1,6 @@
-use Rattle.std.proofs.Common.{rules, sym, ap, ◌∙◌}
-use Rattle.shelf.specs.Meaning.{bound}
-use Rattle.wiring.specs.Candidates.{offered, offered_at}
-use Rattle.digest.proofs.Told.{never_absent, never_unnumbered, offers_import, offers_require, serving, unserved}
+use Rattle.std.proofs.Common.{rules, sym, ◌∙◌}
+use Rattle.wiring.specs.Candidates.{offered_at}
+use Rattle.digest.proofs.Told.{never_absent, never_unnumbered, offered_of, offers_import, offers_require, serving, unserved}
 use Rattle.digest.proofs.digest.Digest.offered.Goals as goal
 
 pub returns-then-not-contains : goal.returns-then-not-contains
@@ -10,7 +9,9 @@ returns-then-not-contains c = λ m controller d.
     unserved _ (offered_at m controller a.b a.k a.c) (search rules) (sym (c.candidates.ensures m controller d a.c) ∙ sym c.contains.ensures.value ∙ c.if-not-contains.true)
 
 pub returns-in_err-need : goal.returns-in_err-need
-returns-in_err-need c = λ m controller d. c.from_residual.ensures ∙ sym (ap (λ o. bound o (λ n. offered m controller c.args.b n c.args.c)) (c.in_err-need.ensures m controller d))
+returns-in_err-need c = λ m controller d.
+    let a = c.args in
+    c.from_residual.ensures ∙ offered_of m controller a.b a.k a.c (c.in_err-need.ensures m controller d)
 
 pub returns-in_err-need-in-Import : goal.returns-in_err-need-in-Import
 returns-in_err-need-in-Import c = λ m controller d.
@@ -33,7 +34,7 @@ returns-in_ok-need-in-Import c = λ m controller d.
     let served = serving m controller a.b a.k a.c n c.in_ok-need.need there is (sym (c.candidates.ensures m controller d a.c) ∙ sym c.contains.ensures.value ∙ c.if-not-contains.false) in
     offers_import m d.formed controller a.b a.c n c.in_ok-need.need is served c.in_ok-need-in-Import.field-0 c.version_of.result
     c.in-Import.is c.in_ok-need-in-Import.was (c.version_of.ensures m controller d)
-    ∙ sym (ap (λ o. bound o (λ n. offered m controller a.b n a.c)) there)
+    ∙ offered_of m controller a.b a.k a.c there
 
 pub returns-in_ok-provider-in-Require : goal.returns-in_ok-provider-in-Require
 returns-in_ok-provider-in-Require c = λ m controller d.
@@ -42,4 +43,4 @@ returns-in_ok-provider-in-Require c = λ m controller d.
     let served = serving m controller a.b a.k a.c n c.in_ok-need.need there is (sym (c.candidates.ensures m controller d a.c) ∙ sym c.contains.ensures.value ∙ c.if-not-contains.false) in
     let provider = c.in_ok-provider-in-Require.ensures m controller d in
     offers_require m d.formed controller a.b a.c n c.in_ok-need.need is served c.in-Require.field-0 _ c.in-Require.is provider.version
-    ∙ sym (ap (λ o. bound o (λ n. offered m controller a.b n a.c)) there)
+    ∙ offered_of m controller a.b a.k a.c there

@@ -1,9 +1,9 @@
-use Rattle.std.proofs.Common.{◌≡◌, true, is_some, sym, refl, ap, ◌∙◌}
+use Rattle.std.proofs.Common.{◌≡◌, true, sym, refl, ap, ◌∙◌}
 use Rattle.places.specs.Sets.{has}
 use Rattle.shelf.specs.Lent.{need_of}
-use Rattle.shelf.specs.Meaning.{bound}
-use Rattle.wiring.specs.Candidates.{candidate, offered}
+use Rattle.wiring.specs.Candidates.{candidate}
 use Rattle.digest.proofs.Served.{served_fits, served_own}
+use Rattle.digest.proofs.Told.{candidate_of}
 use Rattle.digest.proofs.needs.Known.need_digest.Goals as goal
 use Rattle.digest.proofs.needs.Known.need_digest.Goals.{in-Import, in-Require}
 
@@ -32,6 +32,6 @@ returns g c =
         resolution = refl;
         imports = c.imports-imports.ensures;
         own = c.contains.ensures.value ∙ c.exporters-exporters.ensures n c.imports-imports.ensures c.args.b;
-        candidates = λ p. c.candidates.ensures p ∙ ap (λ o. is_some (bound o (λ n. offered m known.target.controller c.args.b n p))) (sym read);
+        candidates = λ p. c.candidates.ensures p ∙ sym (candidate_of m known.target.controller c.args.b c.args.k p (sym read));
       },
     )
